@@ -1,0 +1,26 @@
+// A model: a record and its gates, as a reader accepts them.
+
+ghost use mathlib.Core.Path.{_≡_};
+ghost use mathlib.Core.Bool.{true};
+ghost use denote.Ref.{now as pointee};
+ghost use Rattle.circuit.specs.Sound.{sound};
+use crate::record::Gate;
+use crate::record::Record;
+
+#[derive(Clone, Copy)]
+pub struct Model<'a> {
+    record: &'a Record,
+    gates: &'a [Gate],
+    ghost fit: { sound (pointee «record») (pointee gates) ≡ true },
+}
+
+impl<'a> Model<'a> {
+    // Joins what a reader accepted. It refuses nothing.
+    pub fn join(record: &'a Record, gates: &'a [Gate]) -> Model<'a>
+        requires { ⌜ sound (now «record») (now gates) ≡ true ⌝ }
+        ensures same_record { λ r. ⌜ now (r .«record») ≡ now («record» .entry) ⌝ }
+        ensures same_gates { λ r. ⌜ now (r .gates) ≡ now (gates .entry) ⌝ }
+    {
+        Model { record, gates }
+    }
+}
