@@ -1,0 +1,7 @@
+// The ASCII form of AIGER: reading a model from a file's bytes, and writing one.
+
+pub mod fault;
+mod line;
+mod reader;
+
+pub use fault::ReadFault;
