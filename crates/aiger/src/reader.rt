@@ -9,7 +9,7 @@ ghost use Rattle.std.specs.Vec.{made};
 ghost use Rattle.circuit.specs.Sound.{answerCount, eventCount};
 ghost use Rattle.circuit.specs.Parts.{inputsOf};
 ghost use Rattle.aiger.specs.Line.{begins, contentOf};
-ghost use Rattle.aiger.specs.Advance.{after, both, over, knownTo, freshOn, leaveInputs, leaveLatches, leaveGates, inputOn, latchOn, closeOn, outputOn, gateOn, symbolOn, advance, endOn, stateOf, startOf, Fits};
+ghost use Rattle.aiger.specs.Advance.{after, both, over, knownTo, freshOn, leaveInputs, leaveLatches, leaveGates, inputOn, latchOn, closeOn, outputOn, gateOn, symbolOn, advance, endOn, sidesOn, stateOf, startOf, Fits};
 use circuit::Gate;
 use circuit::Input;
 use circuit::Latch;
@@ -177,5 +177,139 @@ impl Reader {
             return Err(ReadFault::Undefined(at));
         }
         Ok(())
+    }
+
+    fn input(&mut self, at: u32, literal: Literal) -> Result<(), ReadFault>
+        requires { ⌜ now self .model .maximum ≤ 4096 ⌝ ∗ ⌜ now self .place < 24 ⌝ }
+        ensures { λ r. ⌜ after r (now (self .exit)) ≡ inputOn at literal (now (self .entry)) ⌝ }
+    {
+        self.check_fresh(at, literal)?;
+        self.defined[literal.variable()] = true;
+        self.model.inputs[self.place] = Input { literal, side: Side::Event };
+        self.place += 1;
+        self.leave_inputs();
+        Ok(())
+    }
+
+    fn latch(&mut self, at: u32, latch: Latch) -> Result<(), ReadFault>
+        requires { ⌜ now self .model .maximum ≤ 4096 ⌝ ∗ ⌜ now self .place < 32 ⌝ }
+        ensures { λ r. ⌜ after r (now (self .exit)) ≡ latchOn at latch (now (self .entry)) ⌝ }
+    {
+        if self.over(latch.next) {
+            return Err(ReadFault::BadLiteral(at));
+        }
+        self.check_fresh(at, latch.literal)?;
+        self.defined[latch.literal.variable()] = true;
+        self.model.latches[self.place] = latch;
+        self.place += 1;
+        self.leave_latches();
+        Ok(())
+    }
+
+    fn output(&mut self, at: u32, literal: Literal) -> Result<(), ReadFault>
+        requires { ⌜ now self .model .maximum ≤ 4096 ⌝ }
+        requires { ⌜ now self .model .«latch_count» ≤ 32 ⌝ ∗ ⌜ now self .model .«input_count» ≤ 24 ⌝ }
+        ensures { λ r. ⌜ after r (now (self .exit)) ≡ outputOn at literal (now (self .entry)) ⌝ }
+    {
+        if self.over(literal) {
+            return Err(ReadFault::BadLiteral(at));
+        }
+        self.model.output = literal;
+        self.section = Section::Gates;
+        self.place = 0;
+        self.leave_gates()
+    }
+
+    fn gate(&mut self, gates: &mut [Gate], at: u32, gate: Gate) -> Result<(), ReadFault>
+        requires { ⌜ now self .model .maximum ≤ 4096 ⌝ ∗ ⌜ now self .place < length (now gates) ⌝ }
+        requires { ⌜ now self .model .«latch_count» ≤ 32 ⌝ ∗ ⌜ now self .model .«input_count» ≤ 24 ⌝ }
+        ensures { λ r. ⌜ both r (now (self .exit)) (now (gates .exit)) ≡ gateOn at gate (stateOf (now (self .entry)) (now (gates .entry))) ⌝ }
+    {
+        if self.over(gate.left) || self.over(gate.right) {
+            return Err(ReadFault::BadLiteral(at));
+        }
+        self.check_fresh(at, gate.output)?;
+        if !self.knows(gate.left) || !self.knows(gate.right) {
+            return Err(ReadFault::Undefined(at));
+        }
+        self.defined[gate.output.variable()] = true;
+        gates[self.place] = gate;
+        self.place += 1;
+        self.leave_gates()
+    }
+
+    fn symbol(&mut self, at: u32, kind: SymbolKind, position: usize, name: &[u8]) -> Result<(), ReadFault>
+        requires { ⌜ now self .model .«latch_count» ≤ 32 ⌝ ∗ ⌜ now self .model .«input_count» ≤ 24 ⌝ }
+        ensures { λ r. ⌜ after r (now (self .exit)) ≡ symbolOn at kind position (now (name .entry)) (now (self .entry)) ⌝ }
+    {
+        match kind {
+            SymbolKind::Input => {
+                if position >= self.model.input_count || self.names.inputs[position] {
+                    return Err(ReadFault::BadSymbol(at));
+                }
+                self.names.inputs[position] = true;
+                if is_controllable(name) {
+                    self.model.inputs[position].side = Side::Answer;
+                }
+            }
+            SymbolKind::Latch => {
+                if position >= self.model.latch_count || self.names.latches[position] {
+                    return Err(ReadFault::BadSymbol(at));
+                }
+                self.names.latches[position] = true;
+            }
+            SymbolKind::Output => {
+                if position != 0 || self.names.output {
+                    return Err(ReadFault::BadSymbol(at));
+                }
+                self.names.output = true;
+            }
+        }
+        Ok(())
+    }
+
+    // Takes line `at` of the file: what it means depends on the section reached.
+    pub(crate) fn take(&mut self, gates: &mut [Gate], at: u32, line: Line) -> Result<(), ReadFault>
+        requires { ⌜ Fits (now self) (length (now gates)) ⌝ }
+        ensures { λ r. ⌜ both r (now (self .exit)) (now (gates .exit)) ≡ advance at (contentOf (line .entry)) (stateOf (now (self .entry)) (now (gates .entry))) ⌝ }
+    {
+        match (self.section, line) {
+            (Section::Inputs, Line::One(a)) => self.input(at, Literal { code: a }),
+            (Section::Latches, Line::Two(a, b)) => {
+                self.latch(at, Latch { literal: Literal { code: a }, next: Literal { code: b } })
+            }
+            (Section::Output, Line::One(a)) => self.output(at, Literal { code: a }),
+            (Section::Gates, Line::Three(a, b, c)) => {
+                let gate = Gate { output: Literal { code: a }, left: Literal { code: b }, right: Literal { code: c } };
+                self.gate(gates, at, gate)
+            }
+            (Section::Symbols, Line::Symbol(kind, position, name)) => self.symbol(at, kind, position as usize, name),
+            (Section::Symbols, Line::Comment) => {
+                self.section = Section::Comment;
+                Ok(())
+            }
+            (Section::Symbols, _) => Err(ReadFault::BadSymbol(at)),
+            (Section::Comment, _) => Ok(()),
+            (_, _) => Err(ReadFault::Malformed(at)),
+        }
+    }
+
+    // Ends the file where line `at` would stand.
+    pub(crate) fn end(&self, at: u32) -> Result<(), ReadFault>
+        requires { ⌜ now self .model .«input_count» ≤ 24 ⌝ }
+        ensures { λ r. ⌜ r ≡ endOn at (now (self .entry)) ⌝ }
+    {
+        match self.section {
+            Section::Symbols | Section::Comment => self.check_sides(),
+            _ => Err(ReadFault::Malformed(at)),
+        }
+    }
+
+    fn check_sides(&self) -> Result<(), ReadFault>
+        requires { ⌜ now self .model .«input_count» ≤ 24 ⌝ }
+        ensures { λ r. ⌜ r ≡ sidesOn (now (self .entry) .model) ⌝ }
+    {
+        let (events, answers) = side_counts(&self.model.inputs[0..self.model.input_count]);
+        if events <= MAX_SIDE && answers <= MAX_SIDE { Ok(()) } else { Err(ReadFault::SideTooLarge) }
     }
 }
