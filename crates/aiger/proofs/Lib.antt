@@ -1,2 +1,4 @@
+pub mod Files
+pub mod Fitting
 pub mod Lines
 pub mod Loops

@@ -100,9 +100,11 @@ two-or-three-good bs t g None e =
 two-or-three-good bs t g (Some u) e =
     let k = field-gives (t .rest) u e in
     last-good (three (t .value) (u .value)) bs (numberOf (u .rest))
-    λ n h _. let d = decimal-number (u .rest) n h in
-      (ap (λ r. decimal (t .value) ++ 32 ∷ (decimal (u .value) ++ 32 ∷ r)) (d .0)
-       ∙ ap (λ r. decimal (t .value) ++ 32 ∷ r) (sym (k .0)) ∙ sym (g .0), (g .1, k .1, d .1))
+    λ n h _. let d = decimal-number (u .rest) n h in (
+      ap (λ r. decimal (t .value) ++ 32 ∷ (decimal (u .value) ++ 32 ∷ r)) (d .0)
+          ∙ ap (λ r. decimal (t .value) ++ 32 ∷ r) (sym (k .0)) ∙ sym (g .0),
+      (g .1, k .1, d .1),
+    )
 
 one-or-more-good : (bs : List ℕ) (o : Option Taken) → fieldOf bs ≡ o → Good bs (oneOrMore bs o)
 one-or-more-good bs None e = last-good one bs (numberOf bs) λ n h _. decimal-number bs n h
@@ -129,13 +131,13 @@ line-good (b ∷ bs) =
     cond-both (eqb b 105) _ _ (Good (b ∷ bs))
     (λ e. subst (λ x. Good (x ∷ bs) (symbolOf Input bs)) (sym (eqb-true b 105 e)) (symbol-good Input bs))
     λ _. cond-both (eqb b 108) _ _ (Good (b ∷ bs))
-      (λ e. subst (λ x. Good (x ∷ bs) (symbolOf Latch bs)) (sym (eqb-true b 108 e)) (symbol-good Latch bs))
-      λ _. cond-both (eqb b 111) _ _ (Good (b ∷ bs))
-        (λ e. subst (λ x. Good (x ∷ bs) (symbolOf Output bs)) (sym (eqb-true b 111 e)) (symbol-good Output bs))
-        λ _. cond-both (eqb b 99 && eqb (length bs) 0) _ _ (Good (b ∷ bs))
-          (λ e _. let p = and-parts (eqb b 99) (eqb (length bs) 0) e in
-            (ap (λ x. x ∷ []) (sym (eqb-true b 99 (p .0))) ∙ ap (λ r. b ∷ r) (sym (nil-from-length bs (eqb-true (length bs) 0 (p .1)))), tt))
-          (λ _. numbers-good (b ∷ bs))
+    (λ e. subst (λ x. Good (x ∷ bs) (symbolOf Latch bs)) (sym (eqb-true b 108 e)) (symbol-good Latch bs))
+    λ _. cond-both (eqb b 111) _ _ (Good (b ∷ bs))
+    (λ e. subst (λ x. Good (x ∷ bs) (symbolOf Output bs)) (sym (eqb-true b 111 e)) (symbol-good Output bs))
+    λ _. cond-both (eqb b 99 && eqb (length bs) 0) _ _ (Good (b ∷ bs))
+    (λ e _. let p = and-parts (eqb b 99) (eqb (length bs) 0) e in
+    (ap (λ x. x ∷ []) (sym (eqb-true b 99 (p .0))) ∙ ap (λ r. b ∷ r) (sym (nil-from-length bs (eqb-true (length bs) 0 (p .1)))), tt))
+    (λ _. numbers-good (b ∷ bs))
 
 pub text-line : (bs : List ℕ) (s : Content) → lineOf bs ≡ s → (s ≡ malformed → ⊥) → (textOf s ≡ bs) × Proper s
 text-line bs s e = subst (Good bs) e (line-good bs)

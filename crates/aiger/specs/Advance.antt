@@ -79,20 +79,35 @@ define l ds = set ds (variableOf l) true
 
 abbrev pub withInputs : List Input → Record → Record
 withInputs is m = record {
-  maximum = m .maximum; inputs = is; «input_count» = m .«input_count»; latches = m .latches; «latch_count» = m .«latch_count»;
-  output = m .output; «gate_count» = m .«gate_count»
+  maximum = m .maximum;
+  inputs = is;
+  «input_count» = m .«input_count»;
+  latches = m .latches;
+  «latch_count» = m .«latch_count»;
+  output = m .output;
+  «gate_count» = m .«gate_count»;
 }
 
 abbrev pub withLatches : List Latch → Record → Record
 withLatches ls m = record {
-  maximum = m .maximum; inputs = m .inputs; «input_count» = m .«input_count»; latches = ls; «latch_count» = m .«latch_count»;
-  output = m .output; «gate_count» = m .«gate_count»
+  maximum = m .maximum;
+  inputs = m .inputs;
+  «input_count» = m .«input_count»;
+  latches = ls;
+  «latch_count» = m .«latch_count»;
+  output = m .output;
+  «gate_count» = m .«gate_count»;
 }
 
 abbrev pub withOutput : Literal → Record → Record
 withOutput l m = record {
-  maximum = m .maximum; inputs = m .inputs; «input_count» = m .«input_count»; latches = m .latches; «latch_count» = m .«latch_count»;
-  output = l; «gate_count» = m .«gate_count»
+  maximum = m .maximum;
+  inputs = m .inputs;
+  «input_count» = m .«input_count»;
+  latches = m .latches;
+  «latch_count» = m .«latch_count»;
+  output = l;
+  «gate_count» = m .«gate_count»;
 }
 
 -- until a symbol names it, an input is set by the event
@@ -101,19 +116,29 @@ eventInput l = record { literal = l; side = Event }
 
 abbrev pub putInput : Literal → Reader → Reader
 putInput l r = record {
-  section = r .section; place = r .place + 1; model = withInputs (set (r .model .inputs) (r .place) (eventInput l)) (r .model);
-  defined = define l (r .defined); names = r .names
+  section = r .section;
+  place = r .place + 1;
+  model = withInputs (set (r .model .inputs) (r .place) (eventInput l)) (r .model);
+  defined = define l (r .defined);
+  names = r .names;
 }
 
 abbrev pub putLatch : Latch → Reader → Reader
 putLatch l r = record {
-  section = r .section; place = r .place + 1; model = withLatches (set (r .model .latches) (r .place) l) (r .model);
-  defined = define (l .literal) (r .defined); names = r .names
+  section = r .section;
+  place = r .place + 1;
+  model = withLatches (set (r .model .latches) (r .place) l) (r .model);
+  defined = define (l .literal) (r .defined);
+  names = r .names;
 }
 
 abbrev pub putOutput : Literal → Reader → Reader
 putOutput l r = record {
-  section = Gates; place = 0; model = withOutput l (r .model); defined = r .defined; names = r .names
+  section = Gates;
+  place = 0;
+  model = withOutput l (r .model);
+  defined = r .defined;
+  names = r .names;
 }
 
 unfoldable pub inputOn : ℕ → Literal → Reader → Result Reader ReadFault
@@ -144,7 +169,11 @@ beside gs r = andThen r λ r. Ok (stateOf r gs)
 
 abbrev pub putGate : Gate → Reader → Reader
 putGate g r = record {
-  section = r .section; place = r .place + 1; model = r .model; defined = define (g .output) (r .defined); names = r .names
+  section = r .section;
+  place = r .place + 1;
+  model = r .model;
+  defined = define (g .output) (r .defined);
+  names = r .names;
 }
 
 unfoldable pub gateOn : ℕ → Gate → State → Result State ReadFault
@@ -256,15 +285,27 @@ endAt Comment at m = sidesOn m
 unfoldable pub endOn : ℕ → Reader → Result (Unit {0}) ReadFault
 endOn at r = endAt (r .section) at (r .model)
 
--- a reader after the header, over a record to take the tables from
+-- a record with a header's numbers, and the rest of another record
+abbrev pub headedBy : Header → Record → Record
+headedBy h b = record {
+  maximum = h .maximum;
+  inputs = b .inputs;
+  «input_count» = h .inputs;
+  latches = b .latches;
+  «latch_count» = h .latches;
+  output = b .output;
+  «gate_count» = h .gates;
+}
+
+abbrev pub modelOf : Header → Record
+modelOf h = headedBy h blankRecord
+
+-- a reader after the header, before it leaves a section with no lines
 abbrev pub startFrom : Record → Header → Reader
 startFrom b h = record {
   section = Inputs;
   place = 0;
-  model = record {
-    maximum = h .maximum; inputs = b .inputs; «input_count» = h .inputs; latches = b .latches; «latch_count» = h .latches;
-    output = b .output; «gate_count» = h .gates
-  };
+  model = headedBy h b;
   defined = set (replicate 4097 false) 0 true;
   names = record { inputs = replicate 24 false; latches = replicate 32 false; output = false };
 }

@@ -1,3 +1,4 @@
 pub mod Advance
 pub mod Faults
 pub mod Line
+pub mod Read

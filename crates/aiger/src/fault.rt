@@ -42,7 +42,10 @@ impl ReadFault {
     {
         match self {
             ReadFault::FileTooLong => 0,
-            ReadFault::BadHeader | ReadFault::BadSizes | ReadFault::ShortTable | ReadFault::SideTooLarge => 1,
+            ReadFault::BadHeader
+            | ReadFault::BadSizes
+            | ReadFault::ShortTable
+            | ReadFault::SideTooLarge => 1,
             ReadFault::Malformed(line)
             | ReadFault::BadLiteral(line)
             | ReadFault::DefinedTwice(line)
@@ -55,7 +58,8 @@ impl ReadFault {
         match self {
             ReadFault::FileTooLong => "the file has more than 65,536 bytes",
             ReadFault::BadHeader => "the header is not 'aag M I L O A' with five numbers",
-            ReadFault::BadSizes => "a number of the header is over its limit, or there are too few variables",
+            ReadFault::BadSizes =>
+                "a number of the header is over its limit, or there are too few variables",
             ReadFault::ShortTable => "the gate table has fewer places than the file has gates",
             ReadFault::Malformed(_) => "the line is malformed or absent",
             ReadFault::BadLiteral(_) => "a literal is too large, or the one defined is odd or 0",

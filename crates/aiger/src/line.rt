@@ -100,7 +100,13 @@ fn five_numbers(bytes: &[u8]) -> Option<Header>
     let Some(gates) = number(rest) else {
         return None;
     };
-    Some(Header { maximum, inputs, latches, outputs, gates })
+    Some(Header {
+        maximum,
+        inputs,
+        latches,
+        outputs,
+        gates,
+    })
 }
 
 // What stands after the word `aag` and its space.

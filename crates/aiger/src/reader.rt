@@ -10,6 +10,10 @@ ghost use Rattle.circuit.specs.Sound.{answerCount, eventCount};
 ghost use Rattle.circuit.specs.Parts.{inputsOf};
 ghost use Rattle.aiger.specs.Line.{begins, contentOf};
 ghost use Rattle.aiger.specs.Advance.{after, both, over, knownTo, freshOn, leaveInputs, leaveLatches, leaveGates, inputOn, latchOn, closeOn, outputOn, gateOn, symbolOn, advance, endOn, sidesOn, stateOf, startOf, Fits};
+use crate::fault::ReadFault;
+use crate::line::Header;
+use crate::line::Line;
+use crate::line::SymbolKind;
 use circuit::Gate;
 use circuit::Input;
 use circuit::Latch;
@@ -19,10 +23,6 @@ use circuit::record::MAX_INPUTS;
 use circuit::record::MAX_LATCHES;
 use circuit::record::MAX_SIDE;
 use literal::Literal;
-use crate::fault::ReadFault;
-use crate::line::Header;
-use crate::line::Line;
-use crate::line::SymbolKind;
 
 // The constant and the largest variables.
 pub const VARIABLES: usize = 4097;
@@ -90,8 +90,18 @@ impl Reader {
         model.gate_count = header.gates as usize;
         let mut defined = [false; VARIABLES];
         defined[0] = true;
-        let names = Names { inputs: [false; MAX_INPUTS], latches: [false; MAX_LATCHES], output: false };
-        let mut reader = Reader { section: Section::Inputs, place: 0, model, defined, names };
+        let names = Names {
+            inputs: [false; MAX_INPUTS],
+            latches: [false; MAX_LATCHES],
+            output: false,
+        };
+        let mut reader = Reader {
+            section: Section::Inputs,
+            place: 0,
+            model,
+            defined,
+            names,
+        };
         reader.leave_inputs();
         reader
     }
@@ -185,7 +195,10 @@ impl Reader {
     {
         self.check_fresh(at, literal)?;
         self.defined[literal.variable()] = true;
-        self.model.inputs[self.place] = Input { literal, side: Side::Event };
+        self.model.inputs[self.place] = Input {
+            literal,
+            side: Side::Event,
+        };
         self.place += 1;
         self.leave_inputs();
         Ok(())
@@ -238,7 +251,13 @@ impl Reader {
         self.leave_gates()
     }
 
-    fn symbol(&mut self, at: u32, kind: SymbolKind, position: usize, name: &[u8]) -> Result<(), ReadFault>
+    fn symbol(
+        &mut self,
+        at: u32,
+        kind: SymbolKind,
+        position: usize,
+        name: &[u8],
+    ) -> Result<(), ReadFault>
         requires { ⌜ now self .model .«latch_count» ≤ 32 ⌝ ∗ ⌜ now self .model .«input_count» ≤ 24 ⌝ }
         ensures { λ r. ⌜ after r (now (self .exit)) ≡ symbolOn at kind position (now (name .entry)) (now (self .entry)) ⌝ }
     {
@@ -276,14 +295,29 @@ impl Reader {
         match (self.section, line) {
             (Section::Inputs, Line::One(a)) => self.input(at, Literal { code: a }),
             (Section::Latches, Line::Two(a, b)) => {
-                self.latch(at, Latch { literal: Literal { code: a }, next: Literal { code: b } })
+                self.latch(
+                    at,
+                    Latch {
+                        literal: Literal { code: a },
+                        next: Literal { code: b },
+                    },
+                )
             }
             (Section::Output, Line::One(a)) => self.output(at, Literal { code: a }),
             (Section::Gates, Line::Three(a, b, c)) => {
-                let gate = Gate { output: Literal { code: a }, left: Literal { code: b }, right: Literal { code: c } };
+                let gate = Gate {
+                    output: Literal { code: a },
+                    left: Literal { code: b },
+                    right: Literal { code: c },
+                };
                 self.gate(gates, at, gate)
             }
-            (Section::Symbols, Line::Symbol(kind, position, name)) => self.symbol(at, kind, position as usize, name),
+            (Section::Symbols, Line::Symbol(kind, position, name)) => self.symbol(
+                at,
+                kind,
+                position as usize,
+                name,
+            ),
             (Section::Symbols, Line::Comment) => {
                 self.section = Section::Comment;
                 Ok(())
@@ -310,6 +344,10 @@ impl Reader {
         ensures { λ r. ⌜ r ≡ sidesOn (now (self .entry) .model) ⌝ }
     {
         let (events, answers) = side_counts(&self.model.inputs[0..self.model.input_count]);
-        if events <= MAX_SIDE && answers <= MAX_SIDE { Ok(()) } else { Err(ReadFault::SideTooLarge) }
+        if events <= MAX_SIDE && answers <= MAX_SIDE {
+            Ok(())
+        } else {
+            Err(ReadFault::SideTooLarge)
+        }
     }
 }

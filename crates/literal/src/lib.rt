@@ -11,6 +11,7 @@ pub struct Literal {
 
 impl Literal {
     pub const FALSE: Literal = Literal { code: 0 };
+
     pub const TRUE: Literal = Literal { code: 1 };
 
     pub fn variable(self) -> usize
@@ -28,7 +29,11 @@ impl Literal {
     pub fn negation(self) -> Literal
         ensures { λ r. ⌜ r ≡ negationOf self ⌝ }
     {
-        let code = if self.is_negated() { self.code - 1 } else { self.code + 1 };
+        let code = if self.is_negated() {
+            self.code - 1
+        } else {
+            self.code + 1
+        };
         Literal { code }
     }
 

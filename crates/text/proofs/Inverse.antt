@@ -61,7 +61,7 @@ pub number-decimal : (n : ℕ) → n ≤ 65535 → numberOf (decimal n) ≡ Some
 number-decimal n h =
     let v = value-decimal own n (omega arith) in
     let r : readOn 0 (std.decimal n) ≡ Some n =
-        read-value 0 (std.decimal n) (digits-decimal own n (omega arith)) (omega arith) ∙ ap (λ x. Some x) v in
+    read-value 0 (std.decimal n) (digits-decimal own n (omega arith)) (omega arith) ∙ ap (λ x. Some x) v in
     ap numberOf (same n h) ∙ accepts (std.decimal n) n (decimal-some n (omega arith)) (one-only n h) r
 
 pub decimal-number : (bs : List ℕ) (n : ℕ) → numberOf bs ≡ Some n → (decimal n ≡ bs) × (n ≤ 65535)
