@@ -1,2 +1,4 @@
 pub mod Sides
 pub mod Soundness
+pub mod Tables
+pub mod Numbers
