@@ -1,12 +1,12 @@
 -- A table of values, as the code fills it, and the values that the definitions speak of.
-use Prim.Native.Nat.{ℕ, _+_, _/_, _<_, _≤_}
+use Prim.Native.Nat.{ℕ, zero, suc, _+_, _/_, _<_}
 use mathlib.Core.Path.{_≡_, refl, sym, ap, _∙_, fun-ext}
 use mathlib.Core.List.{List, [], _∷_}
-use mathlib.Core.Bool.{Bool, true, false, cond}
-use mathlib.Core.Logic.{inl, inr, ⊎-elim}
+use mathlib.Core.Bool.{Bool, false}
+use mathlib.Core.Logic.{⊎-elim}
 use lib.Dec.{eqb}
-use lib.ListN.{length, drop, getD, set}
-use Rattle.std.proofs.shelf.Lists.{at-drop-more, at-drop-all, getD-set-same, getD-set-other}
+use lib.ListN.{length, drop, getD, set, replicate}
+use Rattle.std.proofs.shelf.Lists.{at-drop-more, getD-set-same, getD-set-other}
 use Rattle.std.proofs.shelf.Tests.{cases-eq, eq-eqb, ne-eqb, cond-true, cond-false}
 use Rattle.literal.specs.Truth.{Values, variableOf, valuesOf}
 use Rattle.circuit.specs.declared.record.Gate.{Gate}
@@ -15,7 +15,7 @@ use Rattle.circuit.specs.declared.record.Latch.{Latch}
 use Rattle.circuit.specs.declared.record.Side.{Side}
 use Rattle.circuit.specs.declared.record.Side.the-variants.{Event, Answer}
 use Rattle.circuit.specs.Parts.{answers?}
-use Rattle.circuit.specs.Step.{lowBit, with-value, with-inputs, with-latches, with-gates, conjunction}
+use Rattle.circuit.specs.Step.{allFalse, lowBit, with-value, with-inputs, with-latches, with-gates, conjunction}
 
 put-at : (vs : List Bool) (x : ℕ) (b : Bool) (y : ℕ) → x < length vs → valuesOf (set vs x b) y ≡ with-value (valuesOf vs) x b y
 put-at vs x b y h =
@@ -75,3 +75,12 @@ answer-more is i d e a vs x e′ a′ b h k ex side ee ea eb =
     ∙ ap (λ m. rest m a′ b) ee ∙ ap (λ n. rest e n b) ea ∙ ap (rest e (a / 2)) eb
     ∙ sym (at-drop-more (λ t. with-inputs t e a (valuesOf vs)) is i d h
     ∙ cond-true (answers? (getD is i d .side)) (rest e (a / 2) (lowBit a)) (rest (e / 2) a (lowBit e)) (ap answers? side))
+
+replicate-false : (n y : ℕ) → getD (replicate n false) y false ≡ false
+replicate-false zero y = refl
+replicate-false (suc n) zero = refl
+replicate-false (suc n) (suc y) = replicate-false n y
+
+-- in a new table every variable is false
+pub new-table : (n : ℕ) → valuesOf (replicate n false) ≡ allFalse
+new-table n = fun-ext (replicate-false n)
