@@ -4,5 +4,6 @@ pub mod Headers
 pub mod Counted
 pub mod Lines
 pub mod Loops
+pub mod Naming
 pub mod Sections
 pub mod Texts
