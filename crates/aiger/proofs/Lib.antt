@@ -4,6 +4,7 @@ pub mod Headers
 pub mod Counted
 pub mod Lines
 pub mod Loops
+pub mod Named
 pub mod Naming
 pub mod Sections
 pub mod Texts
