@@ -2,6 +2,7 @@ pub mod Files
 pub mod Fitting
 pub mod Headers
 pub mod Counted
+pub mod Defining
 pub mod Lines
 pub mod Loops
 pub mod Named
