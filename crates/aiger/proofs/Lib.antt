@@ -8,4 +8,5 @@ pub mod Loops
 pub mod Named
 pub mod Naming
 pub mod Sections
+pub mod Tables
 pub mod Texts
