@@ -39,7 +39,7 @@ unfolding freshOn
 fresh-backward at l r h = grind (arith, tells)
 
 -- what a line was, where it was taken
-one-took : (f : ℕ → Result State ReadFault) (d : ReadFault) (c : Content) (u : State) → onOne f (Err d) c ≡ Ok u → (a : ℕ) × (c ≡ one a) × (f a ≡ Ok u)
+pub one-took : (f : ℕ → Result State ReadFault) (d : ReadFault) (c : Content) (u : State) → onOne f (Err d) c ≡ Ok u → (a : ℕ) × (c ≡ one a) × (f a ≡ Ok u)
 one-took f d (one a) u e = (a, refl, e)
 one-took f d (two a b) u e = absurd (no-err d u e)
 one-took f d (three a b c) u e = absurd (no-err d u e)
@@ -47,7 +47,7 @@ one-took f d (symbol k p name) u e = absurd (no-err d u e)
 one-took f d comment u e = absurd (no-err d u e)
 one-took f d malformed u e = absurd (no-err d u e)
 
-two-took : (f : ℕ → ℕ → Result State ReadFault) (d : ReadFault) (c : Content) (u : State) → onTwo f (Err d) c ≡ Ok u → (a : ℕ) × (b : ℕ) × (c ≡ two a b) × (f a b ≡ Ok u)
+pub two-took : (f : ℕ → ℕ → Result State ReadFault) (d : ReadFault) (c : Content) (u : State) → onTwo f (Err d) c ≡ Ok u → (a : ℕ) × (b : ℕ) × (c ≡ two a b) × (f a b ≡ Ok u)
 two-took f d (one a) u e = absurd (no-err d u e)
 two-took f d (two a b) u e = (a, b, refl, e)
 two-took f d (three a b c) u e = absurd (no-err d u e)
@@ -55,7 +55,7 @@ two-took f d (symbol k p name) u e = absurd (no-err d u e)
 two-took f d comment u e = absurd (no-err d u e)
 two-took f d malformed u e = absurd (no-err d u e)
 
-three-took : (f : ℕ → ℕ → ℕ → Result State ReadFault) (d : ReadFault) (c : Content) (u : State) → onThree f (Err d) c ≡ Ok u → (a : ℕ) × (b : ℕ) × (g : ℕ) × (c ≡ three a b g) × (f a b g ≡ Ok u)
+pub three-took : (f : ℕ → ℕ → ℕ → Result State ReadFault) (d : ReadFault) (c : Content) (u : State) → onThree f (Err d) c ≡ Ok u → (a : ℕ) × (b : ℕ) × (g : ℕ) × (c ≡ three a b g) × (f a b g ≡ Ok u)
 three-took f d (one a) u e = absurd (no-err d u e)
 three-took f d (two a b) u e = absurd (no-err d u e)
 three-took f d (three a b c) u e = (a, b, c, refl, e)
@@ -63,7 +63,7 @@ three-took f d (symbol k p name) u e = absurd (no-err d u e)
 three-took f d comment u e = absurd (no-err d u e)
 three-took f d malformed u e = absurd (no-err d u e)
 
-unit-ok : (x : Result (Unit {0}) ReadFault) (a : Unit {0}) → x ≡ Ok a → x ≡ Ok tt
+pub unit-ok : (x : Result (Unit {0}) ReadFault) (a : Unit {0}) → x ≡ Ok a → x ≡ Ok tt
 unit-ok x tt e = e
 
 -- a condition that an `Ok` passed
@@ -78,7 +78,7 @@ putI l st = stateOf (putInput l (st .reader)) (st .gates)
 abbrev pub okI : Literal → State → Bool
 okI l st = okFresh (st .reader) l
 
-pub inputsSection : Section inputLine putI okI
+unfoldable pub inputsSection : Section inputLine putI okI
 unfolding advance inputOn leaveInputs endOn
 inputsSection =
     record {
@@ -108,21 +108,21 @@ putL l st = stateOf (putLatch l (st .reader)) (st .gates)
 abbrev pub okL : Latch → State → Bool
 okL l st = not (over (st .reader) (l .next)) && okFresh (st .reader) (l .literal)
 
-latch-forward : (at : ℕ) (l : Latch) (r : Reader) → not (over r (l .next)) && okFresh r (l .literal) ≡ true → latchOn at l r ≡ Ok (leaveLatches (putLatch l r))
+pub latch-forward : (at : ℕ) (l : Latch) (r : Reader) → not (over r (l .next)) && okFresh r (l .literal) ≡ true → latchOn at l r ≡ Ok (leaveLatches (putLatch l r))
 unfolding latchOn
 latch-forward at l r h =
     let p = and-parts (not (over r (l .next))) (okFresh r (l .literal)) h in
     cond-false (over r (l .next)) _ _ (grind (arith, tells))
     ∙ ap (λ x. andThen x λ _. Ok (leaveLatches (putLatch l r))) (fresh-forward at (l .literal) r (p .1))
 
-latch-backward : (at : ℕ) (l : Latch) (r q : Reader) → latchOn at l r ≡ Ok q → (not (over r (l .next)) && okFresh r (l .literal) ≡ true) × (leaveLatches (putLatch l r) ≡ q)
+pub latch-backward : (at : ℕ) (l : Latch) (r q : Reader) → latchOn at l r ≡ Ok q → (not (over r (l .next)) && okFresh r (l .literal) ≡ true) × (leaveLatches (putLatch l r) ≡ q)
 unfolding latchOn
 latch-backward at l r q e =
     let o = cond-took (over r (l .next)) (fault.BadLiteral at) _ q e in
     let d = then-took (freshOn at (l .literal) r) (λ _. Ok (leaveLatches (putLatch l r))) q (o .1) in
     (and-from (not (over r (l .next))) (okFresh r (l .literal)) (ap not (o .0)) (fresh-backward at (l .literal) r (unit-ok _ (d .0) (d .1))), (cc))
 
-pub latchesSection : Section latchLine putL okL
+unfoldable pub latchesSection : Section latchLine putL okL
 unfolding advance leaveLatches endOn
 latchesSection =
     record {
@@ -153,10 +153,10 @@ okG g st =
     not (over (st .reader) (g .left) || over (st .reader) (g .right))
     && (okFresh (st .reader) (g .output) && (knownTo (st .reader) (g .left) && knownTo (st .reader) (g .right)))
 
-abbrev leaveG : State → Result State ReadFault
+abbrev pub leaveG : State → Result State ReadFault
 leaveG st = beside (st .gates) (leaveGates (st .reader))
 
-gate-forward : (at : ℕ) (g : Gate) (st : State) → okG g st ≡ true → gateOn at g st ≡ leaveG (putG g st)
+pub gate-forward : (at : ℕ) (g : Gate) (st : State) → okG g st ≡ true → gateOn at g st ≡ leaveG (putG g st)
 unfolding gateOn
 gate-forward at g st h =
     let r = st .reader in
@@ -171,7 +171,7 @@ not-true : (b : Bool) → not b ≡ false → b ≡ true
 not-true true h = refl
 not-true false h = absurd (let z : _≡_ {A = ℕ} 0 1 = cc in omega arith)
 
-gate-backward : (at : ℕ) (g : Gate) (st u : State) → gateOn at g st ≡ Ok u → (okG g st ≡ true) × (leaveG (putG g st) ≡ Ok u)
+pub gate-backward : (at : ℕ) (g : Gate) (st u : State) → gateOn at g st ≡ Ok u → (okG g st ≡ true) × (leaveG (putG g st) ≡ Ok u)
 unfolding gateOn
 gate-backward at g st u e =
     let r = st .reader in
@@ -181,7 +181,7 @@ gate-backward at g st u e =
     let f = fresh-backward at (g .output) r (unit-ok _ (d .0) (d .1)) in
     (and-from (not (over r (g .left) || over r (g .right))) _ (ap not (o .0)) (and-from (okFresh r (g .output)) _ f (grind (arith, tells, k .0))), k .1)
 
-pub gatesSection : Section gateLine putG okG
+unfoldable pub gatesSection : Section gateLine putG okG
 unfolding advance leaveGates endOn
 gatesSection =
     record {

@@ -1,6 +1,7 @@
 pub mod Files
 pub mod Fitting
 pub mod Headers
+pub mod Bodies
 pub mod Counted
 pub mod Defining
 pub mod Lines
