@@ -1,0 +1,164 @@
+-- A file is accepted with a model exactly when it is a file of that model.
+use Prim.Native.Nat.{ℕ, zero, suc, _+_, _-_, _*_, _≤_, _<_}
+use mathlib.Core.Path.{_≡_, refl, sym, ap, subst, _∙_}
+use mathlib.Core.Logic.{_⊎_, inl, inr, ⊎-elim}
+use mathlib.Core.List.{List, [], _∷_, _++_, map, append-assoc}
+use mathlib.Core.Bool.{Bool, true, false, cond, not, _&&_, _||_}
+use native.Mathlib.Omega.{arith}
+use lib.Dec.{eqb, ltb, leb}
+use lib.ListN.{length, getD, take, drop, replicate}
+use Rattle.std.specs.declared.option.Option.{Option}
+use Rattle.std.specs.declared.option.Option.the-variants.{Some, None}
+use Rattle.std.specs.declared.result.Result.{Result}
+use Rattle.std.specs.declared.result.Result.the-variants.{Ok, Err}
+use Rattle.std.proofs.shelf.Ways.{tells}
+use Rattle.std.proofs.shelf.Lists.{length-map, length-take-le, length-replicate, getD-replicate, nil-from-length}
+use Rattle.std.proofs.shelf.Tests.{cond-true, cond-false, cond-both, and-parts, and-from, cases-bool, cases-lt}
+use Rattle.literal.specs.declared.Literal.{Literal}
+use Rattle.literal.specs.Truth.{variableOf}
+use Rattle.circuit.specs.declared.record.Gate.{Gate}
+use Rattle.circuit.specs.declared.record.Input.{Input}
+use Rattle.circuit.specs.declared.record.Latch.{Latch}
+use Rattle.circuit.specs.declared.record.Record.{Record}
+use Rattle.circuit.specs.Parts.{blankGate, blankInput, blankLatch, inputsOf, latchesOf, gatesOf, answers?}
+use Rattle.circuit.specs.Sound.{member, every, fresh, known, defined, allFresh, gatesOrdered, sources, sourceVariables, variables, sized, sidesFit, eventCount, answerCount, blankPast, sound}
+use Rattle.circuit.proofs.Soundness.{Sizes, Soundness, soundness}
+use Rattle.circuit.proofs.Freshness.{fresh-append, defined-append}
+use Rattle.text.specs.Cut.{Parts, cutAt}
+use Rattle.text.proofs.Cuts.{cut-text, cut-gives}
+use Rattle.aiger.specs.declared.fault.ReadFault.{ReadFault}
+use Rattle.aiger.specs.declared.fault.ReadFault.the-variants as fault
+use Rattle.aiger.specs.declared.line.Header.{Header}
+use Rattle.aiger.specs.declared.line.SymbolKind.{SymbolKind}
+use Rattle.aiger.specs.declared.line.SymbolKind.the-variants as kind
+use Rattle.aiger.specs.declared.reader.Reader.{Reader}
+use Rattle.aiger.specs.Line.{Content, one, two, three, symbol, comment, malformed, textOf, texts, headerOf, headerText}
+use Rattle.aiger.specs.Advance.{State, stateOf, andThen, over, closeOn, withInputs, withLatches, withOutput, sidesOn, startOf, rawStart, modelOf, commented}
+use Rattle.aiger.specs.Read.{linesOf, folded, sizedOf, Filled, filling, bodyOf, sizedThen, headed, fillOf}
+use Rattle.aiger.specs.Format.{headerFor, inputLine, latchLine, gateLine, inputLiterals, bodyLines, body, Symbol, symbolLine, symbolTexts, countOf, namedBy, wellNamed, namesAnswer, Tail, FileOf, Accepts}
+use Rattle.aiger.proofs.Sections.{puts, allOk, then-took}
+use Rattle.aiger.proofs.Counted.{no-err, unit-ok, cond-took, putI, okI, putL, okL, putG, okG}
+use Rattle.aiger.proofs.Bodies.{Body, linesOfBody, state₀, full₀, state₁, full₁, state₂, state₃, full₃, state₄, recordOf, model₁, model₂, model₃, table₃, names₃, Fine, body-forward, BodyLines, body-backward}
+use Rattle.aiger.proofs.Defining.{Knowing, Knows, knowing-start, known-low, inputs-fresh, inputs-known, latches-forward, latches-backward, latches-known, gates-fresh, gates-known, close-forward, close-backward, nextsKnown, nextsLow, nexts-low, literals, outputs}
+use Rattle.aiger.proofs.Headers.{Small, header-text, header-within, header-gives}
+use Rattle.aiger.proofs.Named.{Flagged, well-forward, well-backward, well-sayable}
+use Rattle.aiger.proofs.Naming.{putsS, allOkS, flagOf, sidedAll, symbols-forward, symbols-backward, Symbol-lines, TailLines, end-forward, comment-forward, puts-model}
+use Rattle.aiger.proofs.Records.{Blanks, blanks-of, blanks-past, sidedTable, table-length, table-side, table-drop, table-literals, inputs-same, lists-same, filled-take, filled-drop, filled-length}
+use Rattle.aiger.proofs.Tables.{setAll}
+use Rattle.aiger.proofs.Texts.{Sayable, AllSayable, Fronts, texts-lines, lines-texts, first-line, NoneMalformed, texts-append, sayable-append, sayable-back, malformed-append, say-one, say-two, say-three}
+
+-- the sizes that a header may have over a table of n places
+pub record Sized (h : Header) (n : ℕ) : Type 0 where
+  pub maximum : h .maximum ≤ 4096
+  pub inputs : h .inputs ≤ 24
+  pub latches : h .latches ≤ 32
+  pub outputs : h .outputs ≡ 1
+  pub gates : h .gates ≤ 2048
+  pub all : h .inputs + h .latches + h .gates ≤ h .maximum
+  pub table : h .gates ≤ n
+
+sizes-forward : (h : Header) (n : ℕ) → Sized h n → sizedOf h n ≡ Ok tt
+unfolding sizedOf
+sizes-forward h n s = let a = s .maximum in let b = s .inputs in let c = s .latches in let d = s .outputs in let e = s .gates in let f = s .all in let g = s .table in grind (arith, tells)
+
+sizes-backward : (h : Header) (n : ℕ) → sizedOf h n ≡ Ok tt → Sized h n
+unfolding sizedOf
+sizes-backward h n e =
+    let a = cond-took (ltb 4096 (h .maximum) || (ltb 24 (h .inputs) || (ltb 32 (h .latches) || (not (eqb (h .outputs) 1) || ltb 2048 (h .gates))))) fault.BadSizes _ tt e in
+    let b = cond-took (ltb (h .maximum) (h .inputs + h .latches + h .gates)) fault.BadSizes _ tt (a .1) in
+    let c = cond-took (ltb n (h .gates)) fault.ShortTable _ tt (b .1) in
+    let p = a .0 in
+    record {
+      maximum = grind (arith, tells);
+      inputs = grind (arith, tells);
+      latches = grind (arith, tells);
+      outputs = grind (arith, tells);
+      gates = grind (arith, tells);
+      all = let q = b .0 in grind (arith, tells);
+      table = let q = c .0 in grind (arith, tells);
+    }
+
+-- the variables that a body defines, section by section
+abbrev vars₁ : Body → List ℕ
+vars₁ b = defined (0 ∷ []) (b .inputs)
+
+abbrev vars₂ : Body → List ℕ
+vars₂ b = defined (vars₁ b) (literals (b .latches))
+
+abbrev vars₃ : Body → List ℕ
+vars₃ b = defined (vars₂ b) (outputs (b .gates))
+
+-- a body by the rules of a model
+pub record Ordered (m : ℕ) (b : Body) : Type 0 where
+  pub inputs : allFresh m (0 ∷ []) (b .inputs) ≡ true
+  pub latches : allFresh m (vars₁ b) (literals (b .latches)) ≡ true
+  pub gates : gatesOrdered m (vars₂ b) (b .gates) ≡ true
+  pub nexts : nextsKnown (vars₃ b) (b .latches) ≡ true
+  pub output : known (vars₃ b) (b .output) ≡ true
+
+module _ (h : Header) (n : ℕ) (b : Body) where
+  max₁ : state₁ h n b .reader .model .maximum ≡ h .maximum
+  max₁ = ap (λ m. m .maximum) (model₁ h n b)
+
+  max₂ : full₁ h n b .reader .model .maximum ≡ h .maximum
+  max₂ = ap (λ m. m .maximum) (model₂ h n b)
+
+  max₃ : full₃ h n b .reader .model .maximum ≡ h .maximum
+  max₃ = ap (λ m. m .maximum) (model₃ h n b)
+
+  knows₀ : h .maximum ≤ 4096 → Knows (state₀ h n .reader) (0 ∷ [])
+  knows₀ s = knowing-start (h .maximum) s
+
+  knows₁ : h .maximum ≤ 4096 → allFresh (h .maximum) (0 ∷ []) (b .inputs) ≡ true → Knows (state₁ h n b .reader) (vars₁ b)
+  knows₁ s f = inputs-known (b .inputs) (state₀ h n) (0 ∷ []) (knows₀ s) f
+
+  knows₂ : h .maximum ≤ 4096 → allFresh (h .maximum) (0 ∷ []) (b .inputs) ≡ true → allFresh (h .maximum) (vars₁ b) (literals (b .latches)) ≡ true → Knows (state₃ h n b .reader) (vars₂ b)
+  knows₂ s f g = latches-known (b .latches) (state₁ h n b) (vars₁ b) (knows₁ s f) (ap (λ m. allFresh m (vars₁ b) (literals (b .latches))) max₁ ∙ g)
+
+  knows₃ : h .maximum ≤ 4096 → allFresh (h .maximum) (0 ∷ []) (b .inputs) ≡ true → allFresh (h .maximum) (vars₁ b) (literals (b .latches)) ≡ true → gatesOrdered (h .maximum) (vars₂ b) (b .gates) ≡ true → Knows (full₃ h n b .reader) (vars₃ b)
+  knows₃ s f g k = gates-known (b .gates) (state₃ h n b) (vars₂ b) (knows₂ s f g) (ap (λ m. gatesOrdered m (vars₂ b) (b .gates)) max₂ ∙ k)
+
+-- the latches of the record that is read
+read-latches : (h : Header) (b : Body) → length (b .latches) ≡ h .latches → h .latches ≤ 32 → latchesOf (recordOf h b) ≡ b .latches
+read-latches h b e s =
+    ap (λ k. take k (setAll (replicate 32 blankLatch) 0 (b .latches))) (sym e) ∙ filled-take (b .latches) 32 blankLatch (omega arith)
+
+fine-forward : (h : Header) (n : ℕ) (b : Body) → Sized h n → length (b .inputs) ≡ h .inputs → length (b .latches) ≡ h .latches → length (b .gates) ≡ h .gates → Ordered (h .maximum) b → Fine h n b
+unfolding closeOn
+fine-forward h n b s i l g o =
+    let k₃ = knows₃ h n b (s .maximum) (o .inputs) (o .latches) (o .gates) in
+    let lows : nextsLow (h .maximum) (b .latches) ≡ true =
+        ap (λ m. nextsLow m (b .latches)) (sym (max₃ h n b)) ∙ nexts-low (full₃ h n b .reader .model .maximum) (full₃ h n b .reader .defined) (vars₃ b) (b .latches) k₃ (o .nexts) in
+    let out : b .output .code ≤ 2 * full₃ h n b .reader .model .maximum + 1 = known-low (full₃ h n b .reader .model .maximum) (full₃ h n b .reader .defined) (vars₃ b) (b .output) k₃ (o .output) in
+    record {
+      inputCount = i;
+      latchCount = l;
+      gateCount = g;
+      inputs = inputs-fresh (b .inputs) (state₀ h n) (0 ∷ []) (knows₀ h n b (s .maximum)) ∙ o .inputs;
+      latches = latches-forward (b .latches) (state₁ h n b) (vars₁ b) (knows₁ h n b (s .maximum) (o .inputs))
+        (ap (λ m. allFresh m (vars₁ b) (literals (b .latches))) (max₁ h n b) ∙ o .latches)
+        (ap (λ m. nextsLow m (b .latches)) (max₁ h n b) ∙ lows);
+      output = let a = max₂ h n b in let c = max₃ h n b in grind (arith, tells);
+      gates = gates-fresh (b .gates) (state₃ h n b) (vars₂ b) (knows₂ h n b (s .maximum) (o .inputs) (o .latches))
+        ∙ ap (λ m. gatesOrdered m (vars₂ b) (b .gates)) (max₂ h n b) ∙ o .gates;
+      closed = close-forward (full₃ h n b .reader) (vars₃ b) (full₃ h n b .reader .model .«input_count» + 2) (latchesOf (full₃ h n b .reader .model)) k₃
+        (ap (λ m. nextsKnown (vars₃ b) (latchesOf m)) (model₃ h n b) ∙ ap (nextsKnown (vars₃ b)) (read-latches h b l (s .latches)) ∙ o .nexts)
+        (ap (λ m. known (vars₃ b) (m .output)) (model₃ h n b) ∙ o .output);
+    }
+
+fine-backward : (h : Header) (n : ℕ) (b : Body) → Sized h n → Fine h n b → Ordered (h .maximum) b
+unfolding closeOn
+fine-backward h n b s f =
+    let i : allFresh (h .maximum) (0 ∷ []) (b .inputs) ≡ true = sym (inputs-fresh (b .inputs) (state₀ h n) (0 ∷ []) (knows₀ h n b (s .maximum))) ∙ f .inputs in
+    let l : allFresh (h .maximum) (vars₁ b) (literals (b .latches)) ≡ true =
+        sym (ap (λ m. allFresh m (vars₁ b) (literals (b .latches))) (max₁ h n b)) ∙ latches-backward (b .latches) (state₁ h n b) (vars₁ b) (knows₁ h n b (s .maximum) i) (f .latches) in
+    let g : gatesOrdered (h .maximum) (vars₂ b) (b .gates) ≡ true =
+        sym (gates-fresh (b .gates) (state₃ h n b) (vars₂ b) (knows₂ h n b (s .maximum) i l) ∙ ap (λ m. gatesOrdered m (vars₂ b) (b .gates)) (max₂ h n b)) ∙ f .gates in
+    let c = close-backward (full₃ h n b .reader) (vars₃ b) (full₃ h n b .reader .model .«input_count» + 2) (latchesOf (full₃ h n b .reader .model)) (knows₃ h n b (s .maximum) i l g) (f .closed) in
+    record {
+      inputs = i;
+      latches = l;
+      gates = g;
+      nexts = sym (ap (λ m. nextsKnown (vars₃ b) (latchesOf m)) (model₃ h n b) ∙ ap (nextsKnown (vars₃ b)) (read-latches h b (f .latchCount) (s .latches))) ∙ c .0;
+      output = sym (ap (λ m. known (vars₃ b) (m .output)) (model₃ h n b)) ∙ c .1;
+    }
