@@ -13,7 +13,7 @@ use Rattle.std.specs.declared.result.Result.{Result}
 use Rattle.std.specs.declared.result.Result.the-variants.{Ok, Err}
 use Rattle.std.proofs.shelf.Ways.{tells}
 use Rattle.std.proofs.shelf.Lists.{length-map, length-take-le, length-replicate, getD-replicate, nil-from-length}
-use Rattle.std.proofs.shelf.Tests.{cond-true, cond-false, cond-both, and-parts, and-from, cases-bool, cases-lt}
+use Rattle.std.proofs.shelf.Tests.{cond-true, cond-false, cond-both, and-parts, and-from, cases-bool, cases-lt, or-cases}
 use Rattle.literal.specs.declared.Literal.{Literal}
 use Rattle.literal.specs.Truth.{variableOf}
 use Rattle.circuit.specs.declared.record.Gate.{Gate}
@@ -162,3 +162,150 @@ fine-backward h n b s f =
       nexts = sym (ap (λ m. nextsKnown (vars₃ b) (latchesOf m)) (model₃ h n b) ∙ ap (nextsKnown (vars₃ b)) (read-latches h b (f .latchCount) (s .latches))) ∙ c .0;
       output = sym (ap (λ m. known (vars₃ b) (m .output)) (model₃ h n b)) ∙ c .1;
     }
+
+-- no symbol is named before the first
+no-flag : (n q : ℕ) → getD (replicate n false) q false ≡ false
+no-flag zero q = refl
+no-flag (suc n) zero = refl
+no-flag (suc n) (suc q) = no-flag n q
+
+none-named : (h : Header) (k : SymbolKind) (q : ℕ) → flagOf (rawStart h .names) k q ≡ false
+none-named h kind.Input q = no-flag 24 q
+none-named h kind.Latch q = no-flag 32 q
+none-named h kind.Output q = refl
+
+counts-same : (r m : Record) → r .«input_count» ≡ m .«input_count» → r .«latch_count» ≡ m .«latch_count» → (k : SymbolKind) → countOf r k ≡ countOf m k
+counts-same r m i l kind.Input = i
+counts-same r m i l kind.Latch = l
+counts-same r m i l kind.Output = refl
+
+flagged₄ : (h : Header) (n : ℕ) (b : Body) (m : Record) → Sized h n → m .«input_count» ≡ h .inputs → m .«latch_count» ≡ h .latches → Flagged (state₄ h n b .reader) m []
+flagged₄ h n b m s i l =
+    let names = names₃ h n b in
+    record {
+      counts = counts-same (full₃ h n b .reader .model) m (ap (λ r. r .«input_count») (model₃ h n b) ∙ sym i) (ap (λ r. r .«latch_count») (model₃ h n b) ∙ sym l);
+      inputs = let e : length (full₃ h n b .reader .names .inputs) ≡ 24 = ap (λ ns. length (ns .inputs)) names in omega (arith, s .inputs);
+      latches = let e : length (full₃ h n b .reader .names .latches) ≡ 32 = ap (λ ns. length (ns .latches)) names in omega (arith, s .latches);
+      flags = λ k q _. ap (λ ns. flagOf ns k q) names ∙ none-named h k q;
+    }
+
+-- the record after the symbols
+abbrev read : Header → Body → List Symbol → Record
+read h b ss = withInputs (sidedTable (b .inputs) ss) (recordOf h b)
+
+abbrev table : ℕ → Body → List Gate
+table n b = setAll (replicate n blankGate) 0 (b .gates)
+
+read-model : (h : Header) (n : ℕ) (b : Body) (ss : List Symbol) → putsS ss (state₄ h n b .reader) .model ≡ read h b ss
+read-model h n b ss =
+    puts-model ss (state₄ h n b .reader) ∙ ap (λ m. withInputs (sidedAll ss (m .inputs)) m) (model₃ h n b)
+
+-- what the record that is read has in it
+pub record Holds (h : Header) (n : ℕ) (b : Body) (ss : List Symbol) : Type 0 where
+  pub inputs : inputLiterals (read h b ss) ≡ b .inputs
+  pub sides : (j : ℕ) → j < h .inputs → answers? (getD (read h b ss .inputs) j blankInput .side) ≡ namesAnswer ss j
+  pub latches : latchesOf (read h b ss) ≡ b .latches
+  pub gates : gatesOf (read h b ss) (table n b) ≡ b .gates
+  pub inputPlaces : length (read h b ss .inputs) ≡ 24
+  pub latchPlaces : length (read h b ss .latches) ≡ 32
+  pub gatePlaces : length (table n b) ≡ n
+  pub blanks : Blanks (read h b ss) (table n b)
+
+holds : (h : Header) (n : ℕ) (b : Body) (ss : List Symbol) (m : Record) → Sized h n → length (b .inputs) ≡ h .inputs → length (b .latches) ≡ h .latches → length (b .gates) ≡ h .gates
+  → m .«input_count» ≡ h .inputs → wellNamed m [] ss ≡ true → Holds h n b ss
+holds h n b ss m s i l g c w =
+    let few : length (b .inputs) ≤ 24 = omega (arith, s .inputs) in
+    let lew : length (b .latches) ≤ 32 = omega (arith, s .latches) in
+    let gew : length (b .gates) ≤ n = omega (arith, s .table) in
+    let il = table-length (b .inputs) few ss in
+    let ll = filled-length (b .latches) 32 blankLatch lew in
+    let gl = filled-length (b .gates) n blankGate gew in
+    record {
+      inputs = ap (λ k. map (λ x. x .literal) (take k (sidedTable (b .inputs) ss))) (sym i) ∙ table-literals (b .inputs) few ss;
+      sides = λ j k. table-side (b .inputs) few ss j (omega arith);
+      latches = ap (λ k. take k (setAll (replicate 32 blankLatch) 0 (b .latches))) (sym l) ∙ filled-take (b .latches) 32 blankLatch lew;
+      gates = ap (λ k. take k (table n b)) (sym g) ∙ filled-take (b .gates) n blankGate gew;
+      inputPlaces = il;
+      latchPlaces = ll;
+      gatePlaces = gl;
+      blanks = record {
+        inputs = ap (λ k. drop k (sidedTable (b .inputs) ss)) (sym i) ∙ table-drop (b .inputs) few ss [] m (c ∙ sym i) w ∙ ap (λ k. replicate k blankInput) (let e : 24 - length (b .inputs) ≡ length (sidedTable (b .inputs) ss) - h .inputs = omega arith in e);
+        latches = ap (λ k. drop k (setAll (replicate 32 blankLatch) 0 (b .latches))) (sym l) ∙ filled-drop (b .latches) 32 blankLatch lew ∙ ap (λ k. replicate k blankLatch) (let e : 32 - length (b .latches) ≡ length (setAll (replicate 32 blankLatch) 0 (b .latches)) - h .latches = omega arith in e);
+        gates = ap (λ k. drop k (table n b)) (sym g) ∙ filled-drop (b .gates) n blankGate gew ∙ ap (λ k. replicate k blankGate) (let e : n - length (b .gates) ≡ length (table n b) - h .gates = omega arith in e);
+      };
+    }
+
+-- the lines of a sound body can be said
+abbrev Low : List Literal → Type 0
+Low [] = Unit {0}
+Low (l ∷ ls) = (l .code ≤ 65535) × Low ls
+
+fresh-low : (m : ℕ) (vs : List ℕ) (ls : List Literal) → m ≤ 4096 → allFresh m vs ls ≡ true → Low ls
+fresh-low m vs [] s f = tt
+fresh-low m vs (l ∷ ls) s f =
+    let p = and-parts (fresh m vs l) (allFresh m (variableOf l ∷ vs) ls) f in
+    let q = and-parts (leb (l .code) (2 * m + 1)) _ (p .0) in
+    (let e = q .0 in grind (arith, tells), fresh-low m (variableOf l ∷ vs) ls s (p .1))
+
+say-inputs : (ls : List Literal) → Low ls → AllSayable (map inputLine ls)
+say-inputs [] h = tt
+say-inputs (l ∷ ls) h = (say-one (l .code) (h .0), say-inputs ls (h .1))
+
+say-latches : (m : ℕ) (ls : List Latch) → m ≤ 4096 → Low (literals ls) → nextsLow m ls ≡ true → AllSayable (map latchLine ls)
+say-latches m [] s h k = tt
+say-latches m (l ∷ ls) s h k =
+    let p = and-parts (leb (l .next .code) (2 * m + 1)) (nextsLow m ls) k in
+    (say-two (l .literal .code) (l .next .code) (h .0) (let e = p .0 in grind (arith, tells)), say-latches m ls s (h .1) (p .1))
+
+-- operands are among the variables that a body defines, which are at most the largest
+member-low : (m : ℕ) (vs : List ℕ) (l : Literal) → m ≤ 4096 → ((u : ℕ) → member u vs ≡ true → u ≤ m) → known vs l ≡ true → l .code ≤ 65535
+member-low m vs l s low k = let e = low (variableOf l) k in omega arith
+
+more-low : (m : ℕ) (vs : List ℕ) (l : Literal) → fresh m vs l ≡ true → ((u : ℕ) → member u vs ≡ true → u ≤ m) → (u : ℕ) → member u (variableOf l ∷ vs) ≡ true → u ≤ m
+more-low m vs l f low u e =
+    let p = and-parts (leb (l .code) (2 * m + 1)) _ f in
+    let q = p .0 in
+    ⊎-elim (λ z. grind (arith, tells)) (λ z. low u z) (or-cases (eqb u (variableOf l)) (member u vs) e)
+
+say-gates : (m : ℕ) (vs : List ℕ) (gs : List Gate) → m ≤ 4096 → ((u : ℕ) → member u vs ≡ true → u ≤ m) → gatesOrdered m vs gs ≡ true → AllSayable (map gateLine gs)
+say-gates m vs [] s low o = tt
+say-gates m vs (g ∷ gs) s low o =
+    let p = and-parts (fresh m vs (g .output)) _ o in
+    let q = and-parts (known vs (g .left)) _ (p .1) in
+    let t = and-parts (known vs (g .right)) _ (q .1) in
+    let f = and-parts (leb (g .output .code) (2 * m + 1)) _ (p .0) in
+    (say-three (g .output .code) (g .left .code) (g .right .code) (let e = f .0 in grind (arith, tells)) (member-low m vs (g .left) s low (q .0)) (member-low m vs (g .right) s low (t .0)),
+     say-gates m (variableOf (g .output) ∷ vs) gs s (more-low m vs (g .output) (p .0) low) (t .1))
+
+say-body : (h : Header) (n : ℕ) (b : Body) → Sized h n → Ordered (h .maximum) b → AllSayable (linesOfBody b)
+say-body h n b s o =
+    let m = h .maximum in
+    let k₂ = knows₂ h n b (s .maximum) (o .inputs) (o .latches) in
+    let k₃ = knows₃ h n b (s .maximum) (o .inputs) (o .latches) (o .gates) in
+    let lows : nextsLow m (b .latches) ≡ true =
+        ap (λ m. nextsLow m (b .latches)) (sym (max₃ h n b)) ∙ nexts-low (full₃ h n b .reader .model .maximum) (full₃ h n b .reader .defined) (vars₃ b) (b .latches) k₃ (o .nexts) in
+    let out : b .output .code ≤ 2 * full₃ h n b .reader .model .maximum + 1 = known-low (full₃ h n b .reader .model .maximum) (full₃ h n b .reader .defined) (vars₃ b) (b .output) k₃ (o .output) in
+    let low₂ : (u : ℕ) → member u (vars₂ b) ≡ true → u ≤ m = λ u e. let a = k₂ .low u e in let c = max₂ h n b in omega arith in
+    sayable-append (map inputLine (b .inputs)) _ (say-inputs (b .inputs) (fresh-low m (0 ∷ []) (b .inputs) (s .maximum) (o .inputs)))
+    (sayable-append (map latchLine (b .latches)) _ (say-latches m (b .latches) (s .maximum) (fresh-low m (vars₁ b) (literals (b .latches)) (s .maximum) (o .latches)) lows)
+    (say-one (b .output .code) (let c = max₃ h n b in let d = s .maximum in omega arith), say-gates m (vars₂ b) (b .gates) (s .maximum) low₂ (o .gates)))
+
+none-malformed : (b : Body) (ss : List Symbol) → NoneMalformed (linesOfBody b ++ map symbolLine ss)
+none-malformed b ss =
+    malformed-append (linesOfBody b) _
+    (malformed-append (map inputLine (b .inputs)) _ (ones (b .inputs))
+      (malformed-append (map latchLine (b .latches)) _ (twos (b .latches)) ((λ e. let z : _≡_ {A = ℕ} 0 1 = cc in omega arith), threes (b .gates))))
+    (symbols ss)
+  where
+    ones : (ls : List Literal) → NoneMalformed (map inputLine ls)
+    ones [] = tt
+    ones (l ∷ ls) = ((λ e. let z : _≡_ {A = ℕ} 0 1 = cc in omega arith), ones ls)
+    twos : (ls : List Latch) → NoneMalformed (map latchLine ls)
+    twos [] = tt
+    twos (l ∷ ls) = ((λ e. let z : _≡_ {A = ℕ} 0 1 = cc in omega arith), twos ls)
+    threes : (gs : List Gate) → NoneMalformed (map gateLine gs)
+    threes [] = tt
+    threes (g ∷ gs) = ((λ e. let z : _≡_ {A = ℕ} 0 1 = cc in omega arith), threes gs)
+    symbols : (ss : List Symbol) → NoneMalformed (map symbolLine ss)
+    symbols [] = tt
+    symbols (s ∷ ss) = ((λ e. let z : _≡_ {A = ℕ} 0 1 = cc in omega arith), symbols ss)
