@@ -13,7 +13,7 @@ use Rattle.std.specs.declared.result.Result.{Result}
 use Rattle.std.specs.declared.result.Result.the-variants.{Ok, Err}
 use Rattle.std.proofs.shelf.Ways.{tells}
 use Rattle.std.proofs.shelf.Lists.{length-map, length-take-le, length-replicate, getD-replicate, nil-from-length}
-use Rattle.std.proofs.shelf.Tests.{cond-true, cond-false, cond-both, and-parts, and-from, cases-bool, cases-lt, or-cases}
+use Rattle.std.proofs.shelf.Tests.{cond-true, cond-false, cond-both, and-parts, and-from, cases-bool, cases-lt, or-cases, eqb-true, leb-true}
 use Rattle.literal.specs.declared.Literal.{Literal}
 use Rattle.literal.specs.Truth.{variableOf}
 use Rattle.circuit.specs.declared.record.Gate.{Gate}
@@ -40,9 +40,11 @@ use Rattle.aiger.proofs.Sections.{puts, allOk, then-took}
 use Rattle.aiger.proofs.Counted.{no-err, unit-ok, cond-took, putI, okI, putL, okL, putG, okG}
 use Rattle.aiger.proofs.Bodies.{Body, linesOfBody, state₀, full₀, state₁, full₁, state₂, state₃, full₃, state₄, recordOf, model₁, model₂, model₃, table₃, names₃, Fine, body-forward, BodyLines, body-backward}
 use Rattle.aiger.proofs.Defining.{Knowing, Knows, knowing-start, known-low, inputs-fresh, inputs-known, latches-forward, latches-backward, latches-known, gates-fresh, gates-known, close-forward, close-backward, nextsKnown, nextsLow, nexts-low, literals, outputs}
+use Rattle.aiger.proofs.Files.{lines-cut, lines-end}
+use Rattle.aiger.specs.declared.reader.Section.the-variants.{Symbols}
 use Rattle.aiger.proofs.Headers.{Small, header-text, header-within, header-gives}
 use Rattle.aiger.proofs.Named.{Flagged, well-forward, well-backward, well-sayable}
-use Rattle.aiger.proofs.Naming.{putsS, allOkS, flagOf, sidedAll, symbols-forward, symbols-backward, Symbol-lines, TailLines, end-forward, comment-forward, puts-model}
+use Rattle.aiger.proofs.Naming.{putsS, allOkS, flagOf, sidedAll, symbols-forward, symbols-backward, Symbol-lines, TailLines, end-forward, comment-forward, puts-model, puts-section}
 use Rattle.aiger.proofs.Records.{Blanks, blanks-of, blanks-past, sidedTable, table-length, table-side, table-drop, table-literals, inputs-same, lists-same, filled-take, filled-drop, filled-length}
 use Rattle.aiger.proofs.Tables.{setAll}
 use Rattle.aiger.proofs.Texts.{Sayable, AllSayable, Fronts, texts-lines, lines-texts, first-line, NoneMalformed, texts-append, sayable-append, sayable-back, malformed-append, say-one, say-two, say-three}
@@ -309,3 +311,124 @@ none-malformed b ss =
     symbols : (ss : List Symbol) → NoneMalformed (map symbolLine ss)
     symbols [] = tt
     symbols (s ∷ ss) = ((λ e. let z : _≡_ {A = ℕ} 0 1 = cc in omega arith), symbols ss)
+
+-- a model's body, and soundness by it
+abbrev bodyFor : Record → List Gate → Body
+bodyFor r gs = record { inputs = inputLiterals r; latches = latchesOf r; output = r .output; gates = gatesOf r gs }
+
+source-vars : (r : Record) (gs : List Gate) → sourceVariables r ≡ vars₂ (bodyFor r gs)
+source-vars r gs = defined-append (0 ∷ []) (inputLiterals r) (literals (latchesOf r))
+
+all-vars : (r : Record) (gs : List Gate) → variables r gs ≡ vars₃ (bodyFor r gs)
+all-vars r gs = ap (λ vs. defined vs (outputs (gatesOf r gs))) (source-vars r gs)
+
+ordered-of : (r : Record) (gs : List Gate) → Soundness r gs → Ordered (r .maximum) (bodyFor r gs)
+ordered-of r gs s =
+    let m = r .maximum in
+    let p = and-parts (allFresh m (0 ∷ []) (inputLiterals r)) _ (sym (fresh-append m (0 ∷ []) (inputLiterals r) (literals (latchesOf r))) ∙ s .fresh) in
+    record {
+      inputs = p .0;
+      latches = p .1;
+      gates = sym (ap (λ vs. gatesOrdered m vs (gatesOf r gs)) (source-vars r gs)) ∙ s .ordered;
+      nexts = sym (ap (λ vs. nextsKnown vs (latchesOf r)) (all-vars r gs)) ∙ s .nextKnown;
+      output = sym (ap (λ vs. known vs (r .output)) (all-vars r gs)) ∙ s .outputKnown;
+    }
+
+sound-from : (r : Record) (gs : List Gate) → Sizes r (length gs) → eventCount (inputsOf r) ≤ 12 → answerCount (inputsOf r) ≤ 12 → Ordered (r .maximum) (bodyFor r gs) → Blanks r gs → sound r gs ≡ true
+unfolding sound
+sound-from r gs z e a o b =
+    let m = r .maximum in
+    and-from (sized r (length gs)) _ (let z₀ = z .maximum in let z₁ = z .inputs in let z₂ = z .latches in let z₃ = z .gates in let z₄ = z .all in let z₅ = z .table in let z₆ = z .inputPlaces in let z₇ = z .latchPlaces in grind (arith, tells))
+    (and-from (sidesFit r) _ (grind (arith, tells))
+    (and-from (allFresh m (0 ∷ []) (sources r)) _
+      (fresh-append m (0 ∷ []) (inputLiterals r) (literals (latchesOf r)) ∙ and-from (allFresh m (0 ∷ []) (inputLiterals r)) _ (o .inputs) (o .latches))
+    (and-from (gatesOrdered m (sourceVariables r) (gatesOf r gs)) _ (ap (λ vs. gatesOrdered m vs (gatesOf r gs)) (source-vars r gs) ∙ o .gates)
+    (and-from (every (λ l. known (variables r gs) (l .next)) (latchesOf r)) _ (ap (λ vs. nextsKnown vs (latchesOf r)) (all-vars r gs) ∙ o .nexts)
+    (and-from (known (variables r gs) (r .output)) _ (ap (λ vs. known vs (r .output)) (all-vars r gs) ∙ o .output)
+      (blanks-past r gs b))))))
+
+-- what stands after the symbols, both ways
+empty-lines : linesOf [] ≡ []
+unfolding linesOf
+empty-lines = refl
+
+comment-lines : (rest : List ℕ) → linesOf (99 ∷ 10 ∷ rest) ≡ comment ∷ linesOf rest
+comment-lines rest = texts-lines (comment ∷ []) rest (record { proper = tt; within = refl }, tt)
+
+pub record Ended (at : ℕ) (tail : List ℕ) (st : State) : Type 0 where
+  pub state : State
+  pub is : folded at (linesOf tail) st ≡ Ok state
+  pub model : state .reader .model ≡ st .reader .model
+  pub gates : state .gates ≡ st .gates
+
+tail-forward : (at : ℕ) (tail : List ℕ) (st : State) → st .reader .section ≡ Symbols → Tail tail → sidesOn (st .reader .model) ≡ Ok tt → Ended at tail st
+tail-forward at tail st e t s =
+    ⊎-elim
+    (λ z. record {
+      state = st;
+      is = ap (λ x. folded at (linesOf x) st) z ∙ ap (λ x. folded at x st) empty-lines ∙ end-forward at st e ∙ ap (λ x. andThen x λ _. Ok st) s;
+      model = refl; gates = refl;
+    })
+    (λ z.
+      let u = stateOf (commented (st .reader)) (st .gates) in
+      record {
+        state = u;
+        is = ap (λ x. folded at (linesOf x) st) (z .1) ∙ ap (λ x. folded at x st) (comment-lines (z .0)) ∙ comment-forward at (linesOf (z .0)) st e ∙ ap (λ x. andThen x λ _. Ok u) s;
+        model = refl; gates = refl;
+      })
+    t
+
+some-lines : (bs : List ℕ) (o : Option Parts) → cutAt 10 bs ≡ o → linesOf bs ≡ [] → bs ≡ []
+some-lines bs None c e =
+    nil-from-length bs (
+      cond-both (eqb (length bs) 0) [] (malformed ∷ []) (λ l. l ≡ [] → length bs ≡ 0) (λ z _. eqb-true (length bs) 0 z) (λ _ d. grind arith)
+      (sym (lines-end bs (sym c)) ∙ e))
+some-lines bs (Some p) c e = absurd (
+    let d = sym (lines-cut bs (p .front) (p .back) (sym c)) ∙ e in
+    let z : _≡_ {A = ℕ} 0 1 = cc in omega arith)
+
+tail-backward : (bs : List ℕ) (cs : List Content) → linesOf bs ≡ cs → TailLines cs → Tail bs
+tail-backward bs cs e t =
+    ⊎-elim
+    (λ z. inl (some-lines bs (cutAt 10 bs) refl (e ∙ z)))
+    (λ z.
+      let f = first-line bs comment (z .0) (e ∙ z .1) (λ d. let y : _≡_ {A = ℕ} 0 1 = cc in omega arith) in
+      inr (f .rest, f .is))
+    t
+
+sides-forward : (r : Record) → eventCount (inputsOf r) ≤ 12 → answerCount (inputsOf r) ≤ 12 → sidesOn r ≡ Ok tt
+sides-forward r e a = grind (arith, tells)
+
+sides-backward : (r : Record) → sidesOn r ≡ Ok tt → (eventCount (inputsOf r) ≤ 12) × (answerCount (inputsOf r) ≤ 12)
+sides-backward r h =
+    ⊎-elim
+    (λ t. let p = and-parts (leb (eventCount (inputsOf r)) 12) (leb (answerCount (inputsOf r)) 12) t in (leb-true _ _ (p .0), leb-true _ _ (p .1)))
+    (λ f. absurd (no-err fault.SideTooLarge tt (sym (cond-false (leb (eventCount (inputsOf r)) 12 && leb (answerCount (inputsOf r)) 12) _ _ f) ∙ h)))
+    (cases-bool (leb (eventCount (inputsOf r)) 12 && leb (answerCount (inputsOf r)) 12))
+
+-- the record that is read is the model's
+same-record : (r : Record) (gs : List Gate) (ss : List Symbol) → Soundness r gs → Holds (headerFor r) (length gs) (bodyFor r gs) ss
+  → ((j : ℕ) → j < r .«input_count» → answers? (getD (r .inputs) j blankInput .side) ≡ namesAnswer ss j)
+  → read (headerFor r) (bodyFor r gs) ss ≡ r
+same-record r gs ss s k sides =
+    let b = bodyFor r gs in
+    let h = headerFor r in
+    let m = read h b ss in
+    let z = s .sizes in
+    let bl = blanks-of r gs (s .blank) in
+    let kb = k .blanks in
+    let li : length (m .inputs) ≡ length (r .inputs) = k .inputPlaces ∙ sym (z .inputPlaces) in
+    let ll : length (m .latches) ≡ length (r .latches) = k .latchPlaces ∙ sym (z .latchPlaces) in
+    let inputs : m .inputs ≡ r .inputs =
+        inputs-same (r .«input_count») (m .inputs) (r .inputs) (let a = k .inputPlaces in let c = z .inputs in omega arith) li (k .inputs)
+        (λ j l. k .sides j l ∙ sym (sides j l))
+        (kb .inputs ∙ ap (λ x. replicate (x - r .«input_count») blankInput) li ∙ sym (bl .inputs)) in
+    let latches : m .latches ≡ r .latches =
+        lists-same (r .«latch_count») (m .latches) (r .latches) (k .latches)
+        (kb .latches ∙ ap (λ x. replicate (x - r .«latch_count») blankLatch) ll ∙ sym (bl .latches)) in
+    ap (λ x. withInputs x (withLatches (m .latches) r)) inputs ∙ ap (λ y. withInputs (r .inputs) (withLatches y r)) latches
+
+same-table : (r : Record) (gs : List Gate) (ss : List Symbol) → Soundness r gs → Holds (headerFor r) (length gs) (bodyFor r gs) ss → table (length gs) (bodyFor r gs) ≡ gs
+same-table r gs ss s k =
+    lists-same (r .«gate_count») (table (length gs) (bodyFor r gs)) gs (k .gates)
+    (k .blanks .gates ∙ ap (λ x. replicate (x - r .«gate_count») blankGate) (k .gatePlaces) ∙ sym (blanks-of r gs (s .blank) .gates))

@@ -215,3 +215,7 @@ puts-model [] r = refl
 puts-model (s ∷ ss) r =
     puts-model ss (putS s r)
     ∙ ap (λ m. withInputs (sidedAll ss (m .inputs)) m) (put-model (s .kind) (s .position) (s .name) r)
+
+pub puts-section : (ss : List Symbol) (r : Reader) → putsS ss r .section ≡ r .section
+puts-section [] r = refl
+puts-section (s ∷ ss) r = puts-section ss (putS s r) ∙ put-section (s .kind) (s .position) (s .name) r
