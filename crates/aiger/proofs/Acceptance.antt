@@ -432,3 +432,189 @@ same-table : (r : Record) (gs : List Gate) (ss : List Symbol) → Soundness r gs
 same-table r gs ss s k =
     lists-same (r .«gate_count») (table (length gs) (bodyFor r gs)) gs (k .gates)
     (k .blanks .gates ∙ ap (λ x. replicate (x - r .«gate_count») blankGate) (k .gatePlaces) ∙ sym (blanks-of r gs (s .blank) .gates))
+
+-- a file of a model is read as that model
+module _ (bs : List ℕ) (r : Record) (gs : List Gate) (a : Accepts bs r gs) where
+  sound-parts : Soundness r gs
+  sound-parts = soundness r gs (a .model)
+
+  given-sizes : Sized (headerFor r) (length gs)
+  given-sizes =
+    let z = sound-parts .sizes in
+    record { maximum = z .maximum; inputs = z .inputs; latches = z .latches; outputs = refl; gates = z .gates; all = z .all; table = z .table }
+
+  given-inputs : length (inputLiterals r) ≡ r .«input_count»
+  given-inputs =
+    length-map (inputsOf r) (λ i. i .literal)
+    ∙ length-take-le (r .«input_count») (r .inputs) (let z = sound-parts .sizes .inputs in let y = sound-parts .sizes .inputPlaces in omega arith)
+
+  given-latches : length (latchesOf r) ≡ r .«latch_count»
+  given-latches = length-take-le (r .«latch_count») (r .latches) (let z = sound-parts .sizes .latches in let y = sound-parts .sizes .latchPlaces in omega arith)
+
+  given-gates : length (gatesOf r gs) ≡ r .«gate_count»
+  given-gates = length-take-le (r .«gate_count») gs (sound-parts .sizes .table)
+
+  given-ordered : Ordered (r .maximum) (bodyFor r gs)
+  given-ordered = ordered-of r gs sound-parts
+
+  given-holds : Holds (headerFor r) (length gs) (bodyFor r gs) (a .file .symbols)
+  given-holds = holds (headerFor r) (length gs) (bodyFor r gs) (a .file .symbols) r given-sizes given-inputs given-latches given-gates refl (a .file .named)
+
+  given-small : Small (headerFor r)
+  given-small =
+    let z = sound-parts .sizes in
+    record {
+      maximum = omega (arith, z .maximum); inputs = omega (arith, z .inputs); latches = omega (arith, z .latches);
+      outputs = omega arith; gates = omega (arith, z .gates)
+    }
+
+  given-counts : (k : SymbolKind) → countOf r k ≤ 65535
+  given-counts kind.Input = omega (arith, sound-parts .sizes .inputs)
+  given-counts kind.Latch = omega (arith, sound-parts .sizes .latches)
+  given-counts kind.Output = omega arith
+
+  after-header : List ℕ
+  after-header = texts (bodyLines r gs) ++ (symbolTexts (a .file .symbols) ++ a .file .tail)
+
+  given-cut : cutAt 10 bs ≡ Some (record { front = headerText (headerFor r); back = after-header })
+  unfolding after-header
+  given-cut =
+    ap (cutAt 10) (a .file .is ∙ append-assoc (headerText (headerFor r)) (10 ∷ texts (bodyLines r gs)) (symbolTexts (a .file .symbols) ++ a .file .tail))
+    ∙ cut-text 10 (headerText (headerFor r)) (texts (bodyLines r gs) ++ (symbolTexts (a .file .symbols) ++ a .file .tail)) (header-within (headerFor r) given-small)
+
+  given-lines : linesOf after-header ≡ linesOfBody (bodyFor r gs) ++ (map symbolLine (a .file .symbols) ++ linesOf (a .file .tail))
+  unfolding after-header
+  given-lines =
+    texts-lines (bodyLines r gs) (symbolTexts (a .file .symbols) ++ a .file .tail) (say-body (headerFor r) (length gs) (bodyFor r gs) given-sizes given-ordered)
+    ∙ ap (λ l. bodyLines r gs ++ l) (texts-lines (map symbolLine (a .file .symbols)) (a .file .tail) (well-sayable (a .file .symbols) [] r given-counts (a .file .named)))
+
+  given-end : (t : State) × (folded 2 (linesOf after-header) (stateOf (startOf (headerFor r)) (replicate (length gs) blankGate)) ≡ Ok t) × (t .reader .model ≡ r) × (t .gates ≡ gs)
+  given-end =
+    let h = headerFor r in
+    let n = length gs in
+    let b = bodyFor r gs in
+    let ss = a .file .symbols in
+    let fine = fine-forward h n b given-sizes given-inputs given-latches given-gates given-ordered in
+    let f = body-forward h n b (map symbolLine ss ++ linesOf (a .file .tail)) fine in
+    let ok = well-forward ss [] (state₄ h n b .reader) r (flagged₄ h n b r given-sizes refl refl) (a .file .named) in
+    let s = symbols-forward ss (f .0) (state₄ h n b) (linesOf (a .file .tail)) refl ok in
+    let st = stateOf (putsS ss (state₄ h n b .reader)) (state₄ h n b .gates) in
+    let model : st .reader .model ≡ r = read-model h n b ss ∙ same-record r gs ss sound-parts given-holds (a .file .sides) in
+    let gates : st .gates ≡ gs = table₃ h n b ∙ same-table r gs ss sound-parts given-holds in
+    let e = tail-forward (f .0 + length ss) (a .file .tail) st (puts-section ss (state₄ h n b .reader)) (a .file .ending) (ap sidesOn model ∙ sides-forward r (sound-parts .events) (sound-parts .answers)) in
+    (e .state,
+     ap (λ l. folded 2 l (stateOf (startOf h) (replicate n blankGate))) given-lines ∙ f .1 ∙ s ∙ e .is,
+     e .model ∙ model,
+     e .gates ∙ gates)
+
+  pub accept-forward : fillOf bs (length gs) ≡ Ok (filling r gs)
+  unfolding fillOf bodyOf
+  accept-forward =
+    let h = headerFor r in
+    let n = length gs in
+    let e = given-end in
+    cond-false (ltb 65536 (length bs)) _ _ (let s = a .short in grind (arith, tells))
+    ∙ ap (headed n) given-cut
+    ∙ ap (sizedThen n after-header) (header-text h given-small)
+    ∙ ap (λ x. andThen x λ _. bodyOf h n after-header) (sizes-forward h n given-sizes)
+    ∙ ap (λ x. andThen x λ st. Ok (filling (st .reader .model) (st .gates))) (e .1)
+    ∙ ap (λ m. Ok (filling m (e .0 .gates))) (e .2) ∙ ap (λ g. Ok (filling r g)) (e .3)
+
+-- what is read is a file of the model that it is read as
+pub record Reads (h : Header) (n : ℕ) (bs : List ℕ) (m : Record) (gs : List Gate) : Type 0 where
+  pub body : Body
+  pub fine : Fine h n body
+  pub symbols : List Symbol
+  pub tail : List ℕ
+  pub text : bs ≡ texts (linesOfBody body) ++ (symbolTexts symbols ++ tail)
+  pub named : wellNamed (read h body symbols) [] symbols ≡ true
+  pub ending : Tail tail
+  pub sides : sidesOn (read h body symbols) ≡ Ok tt
+  pub model : m ≡ read h body symbols
+  pub gates : gs ≡ table n body
+
+reads : (h : Header) (n : ℕ) (bs : List ℕ) (t : State) → Sized h n → folded 2 (linesOf bs) (stateOf (startOf h) (replicate n blankGate)) ≡ Ok t → Reads h n bs (t .reader .model) (t .gates)
+reads h n bs t s e =
+    let b = body-backward h n (linesOf bs) t e in
+    let l = symbols-backward (b .rest) (b .at) (state₄ h n (b .body)) t refl (b .others) in
+    let ss = l .symbols in
+    let lines : linesOf bs ≡ (linesOfBody (b .body) ++ map symbolLine ss) ++ l .tail =
+        b .is ∙ ap (λ r. linesOfBody (b .body) ++ r) (l .is) ∙ sym (append-assoc (linesOfBody (b .body)) (map symbolLine ss) (l .tail)) in
+    let f = lines-texts bs (linesOfBody (b .body) ++ map symbolLine ss) (l .tail) lines (none-malformed (b .body) ss) in
+    let model = read-model h n (b .body) ss in
+    record {
+      body = b .body;
+      fine = b .fine;
+      symbols = ss;
+      tail = f .rest;
+      text = f .is ∙ ap (λ x. x ++ f .rest) (texts-append (linesOfBody (b .body)) (map symbolLine ss)) ∙ append-assoc (texts (linesOfBody (b .body))) (symbolTexts ss) (f .rest);
+      named = well-backward ss [] (state₄ h n (b .body) .reader) (read h (b .body) ss) (flagged₄ h n (b .body) (read h (b .body) ss) s refl refl) (l .fine) (sayable-back (linesOfBody (b .body)) (map symbolLine ss) (f .sayable));
+      ending = tail-backward (f .rest) (l .tail) (f .others) (l .ending);
+      sides = sym (ap sidesOn model) ∙ l .sides;
+      model = l .model ∙ model;
+      gates = l .gates ∙ table₃ h n (b .body);
+    }
+
+reads-accepts : (h : Header) (n : ℕ) (bs rest : List ℕ) (m : Record) (gs : List Gate) → length bs ≤ 65536 → Small h → Sized h n → bs ≡ headerText h ++ 10 ∷ rest → Reads h n rest m gs → Accepts bs m gs × (length gs ≡ n)
+reads-accepts h n bs rest m gs short small s is k =
+    let b = k .body in
+    let ss = k .symbols in
+    let r = read h b ss in
+    let T = table n b in
+    let f = k .fine in
+    let c = holds h n b ss r s (f .inputCount) (f .latchCount) (f .gateCount) refl (k .named) in
+    let o = fine-backward h n b s f in
+    let hd : headerFor r ≡ h = ap (λ (x : ℕ). record { maximum = h .maximum; inputs = h .inputs; latches = h .latches; outputs = x; gates = h .gates }) (sym (s .outputs)) in
+    let sameBody : bodyFor r T ≡ b =
+        ap (λ (x : List Literal). record { inputs = x; latches = latchesOf r; output = b .output; gates = gatesOf r T }) (c .inputs)
+        ∙ ap (λ (x : List Latch). record { inputs = b .inputs; latches = x; output = b .output; gates = gatesOf r T }) (c .latches)
+        ∙ ap (λ (x : List Gate). record { inputs = b .inputs; latches = b .latches; output = b .output; gates = x }) (c .gates) in
+    let sd = sides-backward r (k .sides) in
+    let sz : Sizes r (length T) =
+        record {
+          maximum = s .maximum; inputs = s .inputs; latches = s .latches; gates = s .gates; all = s .all;
+          table = let e = c .gatePlaces in omega (arith, s .table); inputPlaces = c .inputPlaces; latchPlaces = c .latchPlaces
+        } in
+    let snd = sound-from r T sz (sd .0) (sd .1) (subst (Ordered (h .maximum)) (sym sameBody) o) (c .blanks) in
+    let text : bs ≡ body r T ++ (symbolTexts ss ++ k .tail) =
+        is ∙ ap (λ x. headerText h ++ 10 ∷ x) (k .text)
+        ∙ ap (λ x. headerText x ++ 10 ∷ (texts (linesOfBody b) ++ (symbolTexts ss ++ k .tail))) (sym hd)
+        ∙ ap (λ x. headerText (headerFor r) ++ 10 ∷ (texts (linesOfBody x) ++ (symbolTexts ss ++ k .tail))) (sym sameBody)
+        ∙ sym (append-assoc (headerText (headerFor r)) (10 ∷ texts (bodyLines r T)) (symbolTexts ss ++ k .tail)) in
+    let acc : Accepts bs r T =
+        record {
+          short = short;
+          file = record { symbols = ss; tail = k .tail; is = text; named = k .named; sides = c .sides; ending = k .ending };
+          model = snd;
+        } in
+    (subst (λ g. Accepts bs m g) (sym (k .gates)) (subst (λ x. Accepts bs x T) (sym (k .model)) acc), ap length (k .gates) ∙ c .gatePlaces)
+
+headed-took : (n : ℕ) (o : Option Parts) (d : Filled) → headed n o ≡ Ok d → (p : Parts) × (o ≡ Some p) × (sizedThen n (p .back) (headerOf (p .front)) ≡ Ok d)
+headed-took n None d e = absurd (no-err fault.BadHeader d e)
+headed-took n (Some p) d e = (p, refl, e)
+
+sized-took : (n : ℕ) (bs : List ℕ) (o : Option Header) (d : Filled) → sizedThen n bs o ≡ Ok d → (h : Header) × (o ≡ Some h) × (sizedOf h n ≡ Ok tt) × (bodyOf h n bs ≡ Ok d)
+sized-took n bs None d e = absurd (no-err fault.BadHeader d e)
+sized-took n bs (Some h) d e =
+    let a = then-took (sizedOf h n) (λ _. bodyOf h n bs) d e in
+    (h, refl, unit-ok _ (a .0) (a .1), a .2)
+
+body-took : (h : Header) (n : ℕ) (bs : List ℕ) (d : Filled) → bodyOf h n bs ≡ Ok d → (t : State) × (folded 2 (linesOf bs) (stateOf (startOf h) (replicate n blankGate)) ≡ Ok t) × (filling (t .reader .model) (t .gates) ≡ d)
+unfolding bodyOf
+body-took h n bs d e =
+    let a = then-took (folded 2 (linesOf bs) (stateOf (startOf h) (replicate n blankGate))) (λ st. Ok (filling (st .reader .model) (st .gates))) d e in
+    (a .0, a .1, let k = a .2 in (cc))
+
+pub accept-backward : (bs : List ℕ) (n : ℕ) (d : Filled) → fillOf bs n ≡ Ok d → Accepts bs (d .model) (d .gates) × (length (d .gates) ≡ n)
+unfolding fillOf
+accept-backward bs n d e =
+    let a = cond-took (ltb 65536 (length bs)) fault.FileTooLong (headed n (cutAt 10 bs)) d e in
+    let p = headed-took n (cutAt 10 bs) d (a .1) in
+    let q = sized-took n (p .0 .back) (headerOf (p .0 .front)) d (p .2) in
+    let t = body-took (q .0) n (p .0 .back) d (q .3) in
+    let s = sizes-backward (q .0) n (q .2) in
+    let g = header-gives (p .0 .front) (q .0) (q .1) in
+    let c = cut-gives 10 bs (p .0) (p .1) in
+    let k = reads (q .0) n (p .0 .back) (t .0) s (t .1) in
+    subst (λ x. Accepts bs (x .model) (x .gates) × (length (x .gates) ≡ n)) (t .2)
+    (reads-accepts (q .0) n bs (p .0 .back) (t .0 .reader .model) (t .0 .gates) (let f = a .0 in grind (arith, tells)) (g .1) s (c .0 ∙ ap (λ x. x ++ 10 ∷ p .0 .back) (g .0)) k)
