@@ -2,3 +2,4 @@ pub mod Files
 pub mod Fitting
 pub mod Lines
 pub mod Loops
+pub mod Writing
