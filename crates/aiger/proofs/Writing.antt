@@ -1,7 +1,7 @@
 -- A writer's bytes, one text after another.
 use Prim.Native.Nat.{ℕ, zero, suc, _+_, _-_, _*_, _/_, _%_, _^_, min, _<_, _≤_}
 use mathlib.Core.Path.{_≡_, refl, sym, ap, _∙_}
-use mathlib.Core.Bool.{Bool, true, false, cond}
+use mathlib.Core.Bool.{true, cond}
 use mathlib.Core.List.{List, [], _∷_, _++_, map, append-assoc, map-map}
 use native.Mathlib.Nat.{zero-add, mul-suc}
 use native.Mathlib.Omega.{arith}
@@ -9,7 +9,7 @@ use borrow.Author.Needs.{needs}
 use denote.Ref.{now, name}
 use lib.Chars.{codes}
 use lib.Dec.{ltb}
-use lib.ListN.{length, getD, drop, take, set}
+use lib.ListN.{length, getD, drop, set}
 use Rattle.std.specs.Written as std
 use Rattle.std.proofs.shelf.Lists.{at-drop-more, at-drop-all, length-take-le, length-take, length-append}
 use Rattle.std.proofs.shelf.Edits.{sets, sets-eq}
@@ -32,7 +32,7 @@ use Rattle.aiger.specs.declared.writer.Writer.{Writer}
 use Rattle.aiger.specs.Line.{Content, textOf, texts, headerText}
 use Rattle.aiger.specs.Writing.{putByte, put, answerLine}
 
-pub put-append : (xs ys : List ℕ) (w : Writer) → put (xs ++ ys) w ≡ put ys (put xs w)
+put-append : (xs ys : List ℕ) (w : Writer) → put (xs ++ ys) w ≡ put ys (put xs w)
 unfolding put
 put-append [] ys w = refl
 put-append (x ∷ xs) ys w = put-append xs ys (putByte x w)
@@ -57,6 +57,7 @@ module _ {X : Type 0} (line : X → Content) (xs : List X) (i : ℕ) (w : Writer
   pub lines-all : length xs ≤ i → put (texts (map line (drop i xs))) w ≡ w
   lines-all h = at-drop-all (λ t. put (texts (map line t)) w) xs i h ∙ put-none w
 
+-- a number in decimal: its digits but the last, and then the last
 spells : Spells decimalIn
 spells = search needs
 
@@ -64,14 +65,14 @@ std-decimal : (n : ℕ) → n ≤ 65535 → decimal n ≡ std.decimal n
 unfolding decimal
 std-decimal n h = decimal-from-spells decimalIn spells 5 n (omega arith) (length-decimal-le 5 n (omega arith) (omega arith) (omega arith))
 
-pub decimal-one : (n : ℕ) → n < 10 → decimal n ≡ (48 + n) ∷ []
+decimal-one : (n : ℕ) → n < 10 → decimal n ≡ (48 + n) ∷ []
 decimal-one n h = std-decimal n (omega arith) ∙ decimal-digit n h
 
-pub decimal-more : (n : ℕ) → n ≤ 65535 → 10 ≤ n → decimal n ≡ decimal (n / 10) ++ ((48 + n % 10) ∷ [])
+decimal-more : (n : ℕ) → n ≤ 65535 → 10 ≤ n → decimal n ≡ decimal (n / 10) ++ ((48 + n % 10) ∷ [])
 decimal-more n h k =
     std-decimal n h ∙ decimal-step n k (omega arith) ∙ ap (λ t. t ++ ((48 + n % 10) ∷ [])) (sym (std-decimal (n / 10) (omega arith)))
 
--- a number's digits but the last, and then the last
+-- a writer that puts the digits of a number so
 pub number-more : (n : ℕ) (w : Writer) {w′ w″ : Writer} → n ≤ 65535 → 10 ≤ n → w′ ≡ put (decimal (n / 10)) w → w″ ≡ put ((48 + n % 10) ∷ []) w′ → w″ ≡ put (decimal n) w
 number-more n w h k e f = chained _ _ w e f ∙ ap (λ t. put t w) (sym (decimal-more n h k))
 
@@ -80,11 +81,14 @@ number-one n w h e f =
     let small : n % 10 ≡ n = omega arith in
     f ∙ ap (put ((48 + n % 10) ∷ [])) e ∙ ap (λ k. put ((48 + k) ∷ []) w) small ∙ ap (λ t. put t w) (sym (decimal-one n h))
 
+abbrev answerSymbol : ℕ → Symbol
+answerSymbol p = record { kind = kind.Input; position = p; name = codes "controllable_" ++ decimal p }
+
 -- one input more, on either side, and the end
 module _ (is : List Input) (i : ℕ) (w : Writer) where
   by-side : Side → Writer
   by-side s =
-      put (symbolTexts (cond (answers? s) (record { kind = kind.Input; position = i; name = codes "controllable_" ++ decimal i } ∷ answerSymbols (i + 1) (drop (i + 1) is)) (answerSymbols (i + 1) (drop (i + 1) is)))) w
+      put (symbolTexts (cond (answers? s) (answerSymbol i ∷ answerSymbols (i + 1) (drop (i + 1) is)) (answerSymbols (i + 1) (drop (i + 1) is)))) w
 
   turn : (d : Input) (s : Side) → i < length is → getD is i d .side ≡ s → put (symbolTexts (answerSymbols i (drop i is))) w ≡ by-side s
   unfolding by-side
@@ -218,14 +222,11 @@ gate-short : (g : Gate) → length (textOf (gateLine g)) < 18
 gate-short g =
     simp length-append (omega (arith, decimal-short (g .output .code), decimal-short (g .left .code), decimal-short (g .right .code)))
 
-answer-short : (p : ℕ) → length (textOf (answerLine p)) < 26
-answer-short p = simp length-append (omega (arith, decimal-short p))
-
 symbols-short : (at : ℕ) (is : List Input) → length (symbolTexts (answerSymbols at is)) ≤ 26 * length is
 symbols-short at [] = omega arith
 symbols-short at (i ∷ is) =
     let rest = symbols-short (at + 1) is in
-    elim (i .side) as (λ s. length (symbolTexts (cond (answers? s) (record { kind = kind.Input; position = at; name = codes "controllable_" ++ decimal at } ∷ answerSymbols (at + 1) is) (answerSymbols (at + 1) is))) ≤ 26 * length (i ∷ is)) [
+    elim (i .side) as (λ s. length (symbolTexts (cond (answers? s) (answerSymbol at ∷ answerSymbols (at + 1) is) (answerSymbols (at + 1) is))) ≤ 26 * length (i ∷ is)) [
       | Event ↦ omega arith
       | Answer ↦ simp length-append (omega (arith, decimal-short at))
     ]

@@ -51,9 +51,9 @@ fn header_of(model: &Model) -> Header
 
 // Puts text into a buffer. What finds no room is only counted, so a writer over no buffer measures a text.
 #[derive(Drop)]
-pub struct Writer<'a> {
-    pub buffer: &'a mut [u8],
-    pub at: usize,
+struct Writer<'a> {
+    buffer: &'a mut [u8],
+    at: usize,
 }
 
 impl<'a> Writer<'a> {
@@ -158,8 +158,9 @@ impl<'a> Writer<'a> {
         ensures { λ _. ⌜ now (self .exit) ≡ put (symbolTexts (answerSymbols 0 (now (inputs .entry)))) (now (self .entry)) ⌝ }
     {
         for (position, input) in inputs.iter().enumerate() {
-            if let Side::Answer = input.side {
-                self.symbol(position as u16);
+            match input.side {
+                Side::Answer => self.symbol(position as u16),
+                Side::Event => {}
             }
         }
     }
