@@ -15,3 +15,4 @@ pub mod RoundTrip
 pub mod Sections
 pub mod Tables
 pub mod Texts
+pub mod Writing
