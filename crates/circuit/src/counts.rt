@@ -60,8 +60,9 @@ impl<'a> Model<'a> {
     pub fn used_gates(&self) -> &'a [Gate]
         ensures { λ r. ⌜ now r ≡ gatesOf (now (now (self .entry) .«record»)) (now (now (self .entry) .gates)) ⌝ }
     {
+        let record = self.record;
         let gates = self.gates;
-        &gates[0..self.record.gate_count]
+        &gates[0..record.gate_count]
     }
 }
 
