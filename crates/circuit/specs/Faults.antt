@@ -9,4 +9,4 @@ abbrev pub stepNumber : StepFault → ℕ
 stepNumber OutOfRange = 12
 
 abbrev pub stepReason : StepFault → List ℕ
-stepReason OutOfRange = codes "a state, event or answer number is out of range"
+stepReason f = codes "a state, event or answer number is out of range"
