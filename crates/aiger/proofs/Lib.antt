@@ -1,0 +1,15 @@
+pub mod Files
+pub mod Fitting
+pub mod Headers
+pub mod Acceptance
+pub mod Bodies
+pub mod Counted
+pub mod Defining
+pub mod Lines
+pub mod Loops
+pub mod Named
+pub mod Naming
+pub mod Records
+pub mod Sections
+pub mod Tables
+pub mod Texts

@@ -1,0 +1,5 @@
+pub mod Advance
+pub mod Faults
+pub mod Format
+pub mod Line
+pub mod Read

@@ -1,0 +1,10 @@
+// The ASCII form of AIGER: reading a model from a file's bytes, and writing one.
+
+pub mod fault;
+mod file;
+mod line;
+mod reader;
+
+pub use fault::ReadFault;
+pub use file::MAX_FILE;
+pub use file::read;
