@@ -25,11 +25,7 @@ use lib.Chars.{codes}
 -- the header and the lines that a model's body is
 abbrev pub headerFor : Record → Header
 headerFor r = record {
-  maximum = r .maximum;
-  inputs = r .«input_count»;
-  latches = r .«latch_count»;
-  outputs = 1;
-  gates = r .«gate_count»;
+  maximum = r .maximum; inputs = r .«input_count»; latches = r .«latch_count»; outputs = 1; gates = r .«gate_count»
 }
 
 abbrev pub inputLine : Literal → Content
