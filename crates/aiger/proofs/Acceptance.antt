@@ -130,7 +130,7 @@ unfolding closeOn
 fine-forward h n b s i l g o =
     let k₃ = knows₃ h n b (s .maximum) (o .inputs) (o .latches) (o .gates) in
     let lows : nextsLow (h .maximum) (b .latches) ≡ true =
-        ap (λ m. nextsLow m (b .latches)) (sym (max₃ h n b)) ∙ nexts-low (full₃ h n b .reader .model .maximum) (full₃ h n b .reader .defined) (vars₃ b) (b .latches) k₃ (o .nexts) in
+    ap (λ m. nextsLow m (b .latches)) (sym (max₃ h n b)) ∙ nexts-low (full₃ h n b .reader .model .maximum) (full₃ h n b .reader .defined) (vars₃ b) (b .latches) k₃ (o .nexts) in
     let out : b .output .code ≤ 2 * full₃ h n b .reader .model .maximum + 1 = known-low (full₃ h n b .reader .model .maximum) (full₃ h n b .reader .defined) (vars₃ b) (b .output) k₃ (o .output) in
     record {
       inputCount = i;
@@ -138,14 +138,14 @@ fine-forward h n b s i l g o =
       gateCount = g;
       inputs = inputs-fresh (b .inputs) (state₀ h n) (0 ∷ []) (knows₀ h n b (s .maximum)) ∙ o .inputs;
       latches = latches-forward (b .latches) (state₁ h n b) (vars₁ b) (knows₁ h n b (s .maximum) (o .inputs))
-        (ap (λ m. allFresh m (vars₁ b) (literals (b .latches))) (max₁ h n b) ∙ o .latches)
-        (ap (λ m. nextsLow m (b .latches)) (max₁ h n b) ∙ lows);
+          (ap (λ m. allFresh m (vars₁ b) (literals (b .latches))) (max₁ h n b) ∙ o .latches)
+          (ap (λ m. nextsLow m (b .latches)) (max₁ h n b) ∙ lows);
       output = let a = max₂ h n b in let c = max₃ h n b in grind (arith, tells);
       gates = gates-fresh (b .gates) (state₃ h n b) (vars₂ b) (knows₂ h n b (s .maximum) (o .inputs) (o .latches))
-        ∙ ap (λ m. gatesOrdered m (vars₂ b) (b .gates)) (max₂ h n b) ∙ o .gates;
+          ∙ ap (λ m. gatesOrdered m (vars₂ b) (b .gates)) (max₂ h n b) ∙ o .gates;
       closed = close-forward (full₃ h n b .reader) (vars₃ b) (full₃ h n b .reader .model .«input_count» + 2) (latchesOf (full₃ h n b .reader .model)) k₃
-        (ap (λ m. nextsKnown (vars₃ b) (latchesOf m)) (model₃ h n b) ∙ ap (nextsKnown (vars₃ b)) (read-latches h b l (s .latches)) ∙ o .nexts)
-        (ap (λ m. known (vars₃ b) (m .output)) (model₃ h n b) ∙ o .output);
+          (ap (λ m. nextsKnown (vars₃ b) (latchesOf m)) (model₃ h n b) ∙ ap (nextsKnown (vars₃ b)) (read-latches h b l (s .latches)) ∙ o .nexts)
+          (ap (λ m. known (vars₃ b) (m .output)) (model₃ h n b) ∙ o .output);
     }
 
 fine-backward : (h : Header) (n : ℕ) (b : Body) → Sized h n → Fine h n b → Ordered (h .maximum) b
@@ -153,9 +153,9 @@ unfolding closeOn
 fine-backward h n b s f =
     let i : allFresh (h .maximum) (0 ∷ []) (b .inputs) ≡ true = sym (inputs-fresh (b .inputs) (state₀ h n) (0 ∷ []) (knows₀ h n b (s .maximum))) ∙ f .inputs in
     let l : allFresh (h .maximum) (vars₁ b) (literals (b .latches)) ≡ true =
-        sym (ap (λ m. allFresh m (vars₁ b) (literals (b .latches))) (max₁ h n b)) ∙ latches-backward (b .latches) (state₁ h n b) (vars₁ b) (knows₁ h n b (s .maximum) i) (f .latches) in
+    sym (ap (λ m. allFresh m (vars₁ b) (literals (b .latches))) (max₁ h n b)) ∙ latches-backward (b .latches) (state₁ h n b) (vars₁ b) (knows₁ h n b (s .maximum) i) (f .latches) in
     let g : gatesOrdered (h .maximum) (vars₂ b) (b .gates) ≡ true =
-        sym (gates-fresh (b .gates) (state₃ h n b) (vars₂ b) (knows₂ h n b (s .maximum) i l) ∙ ap (λ m. gatesOrdered m (vars₂ b) (b .gates)) (max₂ h n b)) ∙ f .gates in
+    sym (gates-fresh (b .gates) (state₃ h n b) (vars₂ b) (knows₂ h n b (s .maximum) i l) ∙ ap (λ m. gatesOrdered m (vars₂ b) (b .gates)) (max₂ h n b)) ∙ f .gates in
     let c = close-backward (full₃ h n b .reader) (vars₃ b) (full₃ h n b .reader .model .«input_count» + 2) (latchesOf (full₃ h n b .reader .model)) (knows₃ h n b (s .maximum) i l g) (f .closed) in
     record {
       inputs = i;
@@ -214,7 +214,7 @@ pub record Holds (h : Header) (n : ℕ) (b : Body) (ss : List Symbol) : Type 0 w
   pub blanks : Blanks (read h b ss) (table n b)
 
 holds : (h : Header) (n : ℕ) (b : Body) (ss : List Symbol) (m : Record) → Sized h n → length (b .inputs) ≡ h .inputs → length (b .latches) ≡ h .latches → length (b .gates) ≡ h .gates
-  → m .«input_count» ≡ h .inputs → wellNamed m [] ss ≡ true → Holds h n b ss
+    → m .«input_count» ≡ h .inputs → wellNamed m [] ss ≡ true → Holds h n b ss
 holds h n b ss m s i l g c w =
     let few : length (b .inputs) ≤ 24 = omega (arith, s .inputs) in
     let lew : length (b .latches) ≤ 32 = omega (arith, s .latches) in
@@ -275,9 +275,10 @@ say-gates m vs (g ∷ gs) s low o =
     let p = and-parts (fresh m vs (g .output)) _ o in
     let q = and-parts (known vs (g .left)) _ (p .1) in
     let t = and-parts (known vs (g .right)) _ (q .1) in
-    let f = and-parts (leb (g .output .code) (2 * m + 1)) _ (p .0) in
-    (say-three (g .output .code) (g .left .code) (g .right .code) (let e = f .0 in grind (arith, tells)) (member-low m vs (g .left) s low (q .0)) (member-low m vs (g .right) s low (t .0)),
-     say-gates m (variableOf (g .output) ∷ vs) gs s (more-low m vs (g .output) (p .0) low) (t .1))
+    let f = and-parts (leb (g .output .code) (2 * m + 1)) _ (p .0) in (
+      say-three (g .output .code) (g .left .code) (g .right .code) (let e = f .0 in grind (arith, tells)) (member-low m vs (g .left) s low (q .0)) (member-low m vs (g .right) s low (t .0)),
+      say-gates m (variableOf (g .output) ∷ vs) gs s (more-low m vs (g .output) (p .0) low) (t .1),
+    )
 
 say-body : (h : Header) (n : ℕ) (b : Body) → Sized h n → Ordered (h .maximum) b → AllSayable (linesOfBody b)
 say-body h n b s o =
@@ -285,7 +286,7 @@ say-body h n b s o =
     let k₂ = knows₂ h n b (s .maximum) (o .inputs) (o .latches) in
     let k₃ = knows₃ h n b (s .maximum) (o .inputs) (o .latches) (o .gates) in
     let lows : nextsLow m (b .latches) ≡ true =
-        ap (λ m. nextsLow m (b .latches)) (sym (max₃ h n b)) ∙ nexts-low (full₃ h n b .reader .model .maximum) (full₃ h n b .reader .defined) (vars₃ b) (b .latches) k₃ (o .nexts) in
+    ap (λ m. nextsLow m (b .latches)) (sym (max₃ h n b)) ∙ nexts-low (full₃ h n b .reader .model .maximum) (full₃ h n b .reader .defined) (vars₃ b) (b .latches) k₃ (o .nexts) in
     let out : b .output .code ≤ 2 * full₃ h n b .reader .model .maximum + 1 = known-low (full₃ h n b .reader .model .maximum) (full₃ h n b .reader .defined) (vars₃ b) (b .output) k₃ (o .output) in
     let low₂ : (u : ℕ) → member u (vars₂ b) ≡ true → u ≤ m = λ u e. let a = k₂ .low u e in let c = max₂ h n b in omega arith in
     sayable-append (map inputLine (b .inputs)) _ (say-inputs (b .inputs) (fresh-low m (0 ∷ []) (b .inputs) (s .maximum) (o .inputs)))
@@ -296,18 +297,21 @@ none-malformed : (b : Body) (ss : List Symbol) → NoneMalformed (linesOfBody b 
 none-malformed b ss =
     malformed-append (linesOfBody b) _
     (malformed-append (map inputLine (b .inputs)) _ (ones (b .inputs))
-      (malformed-append (map latchLine (b .latches)) _ (twos (b .latches)) ((λ e. let z : _≡_ {A = ℕ} 0 1 = cc in omega arith), threes (b .gates))))
+    (malformed-append (map latchLine (b .latches)) _ (twos (b .latches)) ((λ e. let z : _≡_ {A = ℕ} 0 1 = cc in omega arith), threes (b .gates))))
     (symbols ss)
   where
     ones : (ls : List Literal) → NoneMalformed (map inputLine ls)
     ones [] = tt
     ones (l ∷ ls) = ((λ e. let z : _≡_ {A = ℕ} 0 1 = cc in omega arith), ones ls)
+
     twos : (ls : List Latch) → NoneMalformed (map latchLine ls)
     twos [] = tt
     twos (l ∷ ls) = ((λ e. let z : _≡_ {A = ℕ} 0 1 = cc in omega arith), twos ls)
+
     threes : (gs : List Gate) → NoneMalformed (map gateLine gs)
     threes [] = tt
     threes (g ∷ gs) = ((λ e. let z : _≡_ {A = ℕ} 0 1 = cc in omega arith), threes gs)
+
     symbols : (ss : List Symbol) → NoneMalformed (map symbolLine ss)
     symbols [] = tt
     symbols (s ∷ ss) = ((λ e. let z : _≡_ {A = ℕ} 0 1 = cc in omega arith), symbols ss)
@@ -341,11 +345,11 @@ sound-from r gs z e a o b =
     and-from (sized r (length gs)) _ (let z₀ = z .maximum in let z₁ = z .inputs in let z₂ = z .latches in let z₃ = z .gates in let z₄ = z .all in let z₅ = z .table in let z₆ = z .inputPlaces in let z₇ = z .latchPlaces in grind (arith, tells))
     (and-from (sidesFit r) _ (grind (arith, tells))
     (and-from (allFresh m (0 ∷ []) (sources r)) _
-      (fresh-append m (0 ∷ []) (inputLiterals r) (literals (latchesOf r)) ∙ and-from (allFresh m (0 ∷ []) (inputLiterals r)) _ (o .inputs) (o .latches))
+    (fresh-append m (0 ∷ []) (inputLiterals r) (literals (latchesOf r)) ∙ and-from (allFresh m (0 ∷ []) (inputLiterals r)) _ (o .inputs) (o .latches))
     (and-from (gatesOrdered m (sourceVariables r) (gatesOf r gs)) _ (ap (λ vs. gatesOrdered m vs (gatesOf r gs)) (source-vars r gs) ∙ o .gates)
     (and-from (every (λ l. known (variables r gs) (l .next)) (latchesOf r)) _ (ap (λ vs. nextsKnown vs (latchesOf r)) (all-vars r gs) ∙ o .nexts)
     (and-from (known (variables r gs) (r .output)) _ (ap (λ vs. known vs (r .output)) (all-vars r gs) ∙ o .output)
-      (blanks-past r gs b))))))
+    (blanks-past r gs b))))))
 
 -- what stands after the symbols, both ways
 empty-lines : linesOf [] ≡ []
@@ -367,22 +371,24 @@ tail-forward at tail st e t s =
     (λ z. record {
       state = st;
       is = ap (λ x. folded at (linesOf x) st) z ∙ ap (λ x. folded at x st) empty-lines ∙ end-forward at st e ∙ ap (λ x. andThen x λ _. Ok st) s;
-      model = refl; gates = refl;
+      model = refl;
+      gates = refl;
     })
     (λ z.
-      let u = stateOf (commented (st .reader)) (st .gates) in
-      record {
-        state = u;
-        is = ap (λ x. folded at (linesOf x) st) (z .1) ∙ ap (λ x. folded at x st) (comment-lines (z .0)) ∙ comment-forward at (linesOf (z .0)) st e ∙ ap (λ x. andThen x λ _. Ok u) s;
-        model = refl; gates = refl;
-      })
+    let u = stateOf (commented (st .reader)) (st .gates) in
+    record {
+      state = u;
+      is = ap (λ x. folded at (linesOf x) st) (z .1) ∙ ap (λ x. folded at x st) (comment-lines (z .0)) ∙ comment-forward at (linesOf (z .0)) st e ∙ ap (λ x. andThen x λ _. Ok u) s;
+      model = refl;
+      gates = refl;
+    })
     t
 
 some-lines : (bs : List ℕ) (o : Option Parts) → cutAt 10 bs ≡ o → linesOf bs ≡ [] → bs ≡ []
 some-lines bs None c e =
     nil-from-length bs (
-      cond-both (eqb (length bs) 0) [] (malformed ∷ []) (λ l. l ≡ [] → length bs ≡ 0) (λ z _. eqb-true (length bs) 0 z) (λ _ d. grind arith)
-      (sym (lines-end bs (sym c)) ∙ e))
+    cond-both (eqb (length bs) 0) [] (malformed ∷ []) (λ l. l ≡ [] → length bs ≡ 0) (λ z _. eqb-true (length bs) 0 z) (λ _ d. grind arith)
+    (sym (lines-end bs (sym c)) ∙ e))
 some-lines bs (Some p) c e = absurd (
     let d = sym (lines-cut bs (p .front) (p .back) (sym c)) ∙ e in
     let z : _≡_ {A = ℕ} 0 1 = cc in omega arith)
@@ -392,8 +398,8 @@ tail-backward bs cs e t =
     ⊎-elim
     (λ z. inl (some-lines bs (cutAt 10 bs) refl (e ∙ z)))
     (λ z.
-      let f = first-line bs comment (z .0) (e ∙ z .1) (λ d. let y : _≡_ {A = ℕ} 0 1 = cc in omega arith) in
-      inr (f .rest, f .is))
+    let f = first-line bs comment (z .0) (e ∙ z .1) (λ d. let y : _≡_ {A = ℕ} 0 1 = cc in omega arith) in
+    inr (f .rest, f .is))
     t
 
 sides-forward : (r : Record) → eventCount (inputsOf r) ≤ 12 → answerCount (inputsOf r) ≤ 12 → sidesOn r ≡ Ok tt
@@ -408,8 +414,8 @@ sides-backward r h =
 
 -- the record that is read is the model's
 same-record : (r : Record) (gs : List Gate) (ss : List Symbol) → Soundness r gs → Holds (headerFor r) (length gs) (bodyFor r gs) ss
-  → ((j : ℕ) → j < r .«input_count» → answers? (getD (r .inputs) j blankInput .side) ≡ namesAnswer ss j)
-  → read (headerFor r) (bodyFor r gs) ss ≡ r
+    → ((j : ℕ) → j < r .«input_count» → answers? (getD (r .inputs) j blankInput .side) ≡ namesAnswer ss j)
+    → read (headerFor r) (bodyFor r gs) ss ≡ r
 same-record r gs ss s k sides =
     let b = bodyFor r gs in
     let h = headerFor r in
@@ -420,12 +426,12 @@ same-record r gs ss s k sides =
     let li : length (m .inputs) ≡ length (r .inputs) = k .inputPlaces ∙ sym (z .inputPlaces) in
     let ll : length (m .latches) ≡ length (r .latches) = k .latchPlaces ∙ sym (z .latchPlaces) in
     let inputs : m .inputs ≡ r .inputs =
-        inputs-same (r .«input_count») (m .inputs) (r .inputs) (let a = k .inputPlaces in let c = z .inputs in omega arith) li (k .inputs)
-        (λ j l. k .sides j l ∙ sym (sides j l))
-        (kb .inputs ∙ ap (λ x. replicate (x - r .«input_count») blankInput) li ∙ sym (bl .inputs)) in
+    inputs-same (r .«input_count») (m .inputs) (r .inputs) (let a = k .inputPlaces in let c = z .inputs in omega arith) li (k .inputs)
+    (λ j l. k .sides j l ∙ sym (sides j l))
+    (kb .inputs ∙ ap (λ x. replicate (x - r .«input_count») blankInput) li ∙ sym (bl .inputs)) in
     let latches : m .latches ≡ r .latches =
-        lists-same (r .«latch_count») (m .latches) (r .latches) (k .latches)
-        (kb .latches ∙ ap (λ x. replicate (x - r .«latch_count») blankLatch) ll ∙ sym (bl .latches)) in
+    lists-same (r .«latch_count») (m .latches) (r .latches) (k .latches)
+    (kb .latches ∙ ap (λ x. replicate (x - r .«latch_count») blankLatch) ll ∙ sym (bl .latches)) in
     ap (λ x. withInputs x (withLatches (m .latches) r)) inputs ∙ ap (λ y. withInputs (r .inputs) (withLatches y r)) latches
 
 same-table : (r : Record) (gs : List Gate) (ss : List Symbol) → Soundness r gs → Holds (headerFor r) (length gs) (bodyFor r gs) ss → table (length gs) (bodyFor r gs) ≡ gs
@@ -440,13 +446,13 @@ module _ (bs : List ℕ) (r : Record) (gs : List Gate) (a : Accepts bs r gs) whe
 
   given-sizes : Sized (headerFor r) (length gs)
   given-sizes =
-    let z = sound-parts .sizes in
-    record { maximum = z .maximum; inputs = z .inputs; latches = z .latches; outputs = refl; gates = z .gates; all = z .all; table = z .table }
+      let z = sound-parts .sizes in
+      record { maximum = z .maximum; inputs = z .inputs; latches = z .latches; outputs = refl; gates = z .gates; all = z .all; table = z .table }
 
   given-inputs : length (inputLiterals r) ≡ r .«input_count»
   given-inputs =
-    length-map (inputsOf r) (λ i. i .literal)
-    ∙ length-take-le (r .«input_count») (r .inputs) (let z = sound-parts .sizes .inputs in let y = sound-parts .sizes .inputPlaces in omega arith)
+      length-map (inputsOf r) (λ i. i .literal)
+      ∙ length-take-le (r .«input_count») (r .inputs) (let z = sound-parts .sizes .inputs in let y = sound-parts .sizes .inputPlaces in omega arith)
 
   given-latches : length (latchesOf r) ≡ r .«latch_count»
   given-latches = length-take-le (r .«latch_count») (r .latches) (let z = sound-parts .sizes .latches in let y = sound-parts .sizes .latchPlaces in omega arith)
@@ -462,11 +468,14 @@ module _ (bs : List ℕ) (r : Record) (gs : List Gate) (a : Accepts bs r gs) whe
 
   given-small : Small (headerFor r)
   given-small =
-    let z = sound-parts .sizes in
-    record {
-      maximum = omega (arith, z .maximum); inputs = omega (arith, z .inputs); latches = omega (arith, z .latches);
-      outputs = omega arith; gates = omega (arith, z .gates)
-    }
+      let z = sound-parts .sizes in
+      record {
+        maximum = omega (arith, z .maximum);
+        inputs = omega (arith, z .inputs);
+        latches = omega (arith, z .latches);
+        outputs = omega arith;
+        gates = omega (arith, z .gates);
+      }
 
   given-counts : (k : SymbolKind) → countOf r k ≤ 65535
   given-counts kind.Input = omega (arith, sound-parts .sizes .inputs)
@@ -479,46 +488,47 @@ module _ (bs : List ℕ) (r : Record) (gs : List Gate) (a : Accepts bs r gs) whe
   given-cut : cutAt 10 bs ≡ Some (record { front = headerText (headerFor r); back = after-header })
   unfolding after-header
   given-cut =
-    ap (cutAt 10) (a .file .is ∙ append-assoc (headerText (headerFor r)) (10 ∷ texts (bodyLines r gs)) (symbolTexts (a .file .symbols) ++ a .file .tail))
-    ∙ cut-text 10 (headerText (headerFor r)) (texts (bodyLines r gs) ++ (symbolTexts (a .file .symbols) ++ a .file .tail)) (header-within (headerFor r) given-small)
+      ap (cutAt 10) (a .file .is ∙ append-assoc (headerText (headerFor r)) (10 ∷ texts (bodyLines r gs)) (symbolTexts (a .file .symbols) ++ a .file .tail))
+      ∙ cut-text 10 (headerText (headerFor r)) (texts (bodyLines r gs) ++ (symbolTexts (a .file .symbols) ++ a .file .tail)) (header-within (headerFor r) given-small)
 
   given-lines : linesOf after-header ≡ linesOfBody (bodyFor r gs) ++ (map symbolLine (a .file .symbols) ++ linesOf (a .file .tail))
   unfolding after-header
   given-lines =
-    texts-lines (bodyLines r gs) (symbolTexts (a .file .symbols) ++ a .file .tail) (say-body (headerFor r) (length gs) (bodyFor r gs) given-sizes given-ordered)
-    ∙ ap (λ l. bodyLines r gs ++ l) (texts-lines (map symbolLine (a .file .symbols)) (a .file .tail) (well-sayable (a .file .symbols) [] r given-counts (a .file .named)))
+      texts-lines (bodyLines r gs) (symbolTexts (a .file .symbols) ++ a .file .tail) (say-body (headerFor r) (length gs) (bodyFor r gs) given-sizes given-ordered)
+      ∙ ap (λ l. bodyLines r gs ++ l) (texts-lines (map symbolLine (a .file .symbols)) (a .file .tail) (well-sayable (a .file .symbols) [] r given-counts (a .file .named)))
 
   given-end : (t : State) × (folded 2 (linesOf after-header) (stateOf (startOf (headerFor r)) (replicate (length gs) blankGate)) ≡ Ok t) × (t .reader .model ≡ r) × (t .gates ≡ gs)
   given-end =
-    let h = headerFor r in
-    let n = length gs in
-    let b = bodyFor r gs in
-    let ss = a .file .symbols in
-    let fine = fine-forward h n b given-sizes given-inputs given-latches given-gates given-ordered in
-    let f = body-forward h n b (map symbolLine ss ++ linesOf (a .file .tail)) fine in
-    let ok = well-forward ss [] (state₄ h n b .reader) r (flagged₄ h n b r given-sizes refl refl) (a .file .named) in
-    let s = symbols-forward ss (f .0) (state₄ h n b) (linesOf (a .file .tail)) refl ok in
-    let st = stateOf (putsS ss (state₄ h n b .reader)) (state₄ h n b .gates) in
-    let model : st .reader .model ≡ r = read-model h n b ss ∙ same-record r gs ss sound-parts given-holds (a .file .sides) in
-    let gates : st .gates ≡ gs = table₃ h n b ∙ same-table r gs ss sound-parts given-holds in
-    let e = tail-forward (f .0 + length ss) (a .file .tail) st (puts-section ss (state₄ h n b .reader)) (a .file .ending) (ap sidesOn model ∙ sides-forward r (sound-parts .events) (sound-parts .answers)) in
-    (e .state,
-     ap (λ l. folded 2 l (stateOf (startOf h) (replicate n blankGate))) given-lines ∙ f .1 ∙ s ∙ e .is,
-     e .model ∙ model,
-     e .gates ∙ gates)
+      let h = headerFor r in
+      let n = length gs in
+      let b = bodyFor r gs in
+      let ss = a .file .symbols in
+      let fine = fine-forward h n b given-sizes given-inputs given-latches given-gates given-ordered in
+      let f = body-forward h n b (map symbolLine ss ++ linesOf (a .file .tail)) fine in
+      let ok = well-forward ss [] (state₄ h n b .reader) r (flagged₄ h n b r given-sizes refl refl) (a .file .named) in
+      let s = symbols-forward ss (f .0) (state₄ h n b) (linesOf (a .file .tail)) refl ok in
+      let st = stateOf (putsS ss (state₄ h n b .reader)) (state₄ h n b .gates) in
+      let model : st .reader .model ≡ r = read-model h n b ss ∙ same-record r gs ss sound-parts given-holds (a .file .sides) in
+      let gates : st .gates ≡ gs = table₃ h n b ∙ same-table r gs ss sound-parts given-holds in
+      let e = tail-forward (f .0 + length ss) (a .file .tail) st (puts-section ss (state₄ h n b .reader)) (a .file .ending) (ap sidesOn model ∙ sides-forward r (sound-parts .events) (sound-parts .answers)) in (
+        e .state,
+        ap (λ l. folded 2 l (stateOf (startOf h) (replicate n blankGate))) given-lines ∙ f .1 ∙ s ∙ e .is,
+        e .model ∙ model,
+        e .gates ∙ gates,
+      )
 
   pub accept-forward : fillOf bs (length gs) ≡ Ok (filling r gs)
   unfolding fillOf bodyOf
   accept-forward =
-    let h = headerFor r in
-    let n = length gs in
-    let e = given-end in
-    cond-false (ltb 65536 (length bs)) _ _ (let s = a .short in grind (arith, tells))
-    ∙ ap (headed n) given-cut
-    ∙ ap (sizedThen n after-header) (header-text h given-small)
-    ∙ ap (λ x. andThen x λ _. bodyOf h n after-header) (sizes-forward h n given-sizes)
-    ∙ ap (λ x. andThen x λ st. Ok (filling (st .reader .model) (st .gates))) (e .1)
-    ∙ ap (λ m. Ok (filling m (e .0 .gates))) (e .2) ∙ ap (λ g. Ok (filling r g)) (e .3)
+      let h = headerFor r in
+      let n = length gs in
+      let e = given-end in
+      cond-false (ltb 65536 (length bs)) _ _ (let s = a .short in grind (arith, tells))
+      ∙ ap (headed n) given-cut
+      ∙ ap (sizedThen n after-header) (header-text h given-small)
+      ∙ ap (λ x. andThen x λ _. bodyOf h n after-header) (sizes-forward h n given-sizes)
+      ∙ ap (λ x. andThen x λ st. Ok (filling (st .reader .model) (st .gates))) (e .1)
+      ∙ ap (λ m. Ok (filling m (e .0 .gates))) (e .2) ∙ ap (λ g. Ok (filling r g)) (e .3)
 
 -- what is read is a file of the model that it is read as
 pub record Reads (h : Header) (n : ℕ) (bs : List ℕ) (m : Record) (gs : List Gate) : Type 0 where
@@ -539,7 +549,7 @@ reads h n bs t s e =
     let l = symbols-backward (b .rest) (b .at) (state₄ h n (b .body)) t refl (b .others) in
     let ss = l .symbols in
     let lines : linesOf bs ≡ (linesOfBody (b .body) ++ map symbolLine ss) ++ l .tail =
-        b .is ∙ ap (λ r. linesOfBody (b .body) ++ r) (l .is) ∙ sym (append-assoc (linesOfBody (b .body)) (map symbolLine ss) (l .tail)) in
+    b .is ∙ ap (λ r. linesOfBody (b .body) ++ r) (l .is) ∙ sym (append-assoc (linesOfBody (b .body)) (map symbolLine ss) (l .tail)) in
     let f = lines-texts bs (linesOfBody (b .body) ++ map symbolLine ss) (l .tail) lines (none-malformed (b .body) ss) in
     let model = read-model h n (b .body) ss in
     record {
@@ -566,27 +576,33 @@ reads-accepts h n bs rest m gs short small s is k =
     let o = fine-backward h n b s f in
     let hd : headerFor r ≡ h = ap (λ (x : ℕ). record { maximum = h .maximum; inputs = h .inputs; latches = h .latches; outputs = x; gates = h .gates }) (sym (s .outputs)) in
     let sameBody : bodyFor r T ≡ b =
-        ap (λ (x : List Literal). record { inputs = x; latches = latchesOf r; output = b .output; gates = gatesOf r T }) (c .inputs)
-        ∙ ap (λ (x : List Latch). record { inputs = b .inputs; latches = x; output = b .output; gates = gatesOf r T }) (c .latches)
-        ∙ ap (λ (x : List Gate). record { inputs = b .inputs; latches = b .latches; output = b .output; gates = x }) (c .gates) in
+    ap (λ (x : List Literal). record { inputs = x; latches = latchesOf r; output = b .output; gates = gatesOf r T }) (c .inputs)
+    ∙ ap (λ (x : List Latch). record { inputs = b .inputs; latches = x; output = b .output; gates = gatesOf r T }) (c .latches)
+    ∙ ap (λ (x : List Gate). record { inputs = b .inputs; latches = b .latches; output = b .output; gates = x }) (c .gates) in
     let sd = sides-backward r (k .sides) in
     let sz : Sizes r (length T) =
-        record {
-          maximum = s .maximum; inputs = s .inputs; latches = s .latches; gates = s .gates; all = s .all;
-          table = let e = c .gatePlaces in omega (arith, s .table); inputPlaces = c .inputPlaces; latchPlaces = c .latchPlaces
-        } in
+    record {
+      maximum = s .maximum;
+      inputs = s .inputs;
+      latches = s .latches;
+      gates = s .gates;
+      all = s .all;
+      table = let e = c .gatePlaces in omega (arith, s .table);
+      inputPlaces = c .inputPlaces;
+      latchPlaces = c .latchPlaces;
+    } in
     let snd = sound-from r T sz (sd .0) (sd .1) (subst (Ordered (h .maximum)) (sym sameBody) o) (c .blanks) in
     let text : bs ≡ body r T ++ (symbolTexts ss ++ k .tail) =
-        is ∙ ap (λ x. headerText h ++ 10 ∷ x) (k .text)
-        ∙ ap (λ x. headerText x ++ 10 ∷ (texts (linesOfBody b) ++ (symbolTexts ss ++ k .tail))) (sym hd)
-        ∙ ap (λ x. headerText (headerFor r) ++ 10 ∷ (texts (linesOfBody x) ++ (symbolTexts ss ++ k .tail))) (sym sameBody)
-        ∙ sym (append-assoc (headerText (headerFor r)) (10 ∷ texts (bodyLines r T)) (symbolTexts ss ++ k .tail)) in
+    is ∙ ap (λ x. headerText h ++ 10 ∷ x) (k .text)
+    ∙ ap (λ x. headerText x ++ 10 ∷ (texts (linesOfBody b) ++ (symbolTexts ss ++ k .tail))) (sym hd)
+    ∙ ap (λ x. headerText (headerFor r) ++ 10 ∷ (texts (linesOfBody x) ++ (symbolTexts ss ++ k .tail))) (sym sameBody)
+    ∙ sym (append-assoc (headerText (headerFor r)) (10 ∷ texts (bodyLines r T)) (symbolTexts ss ++ k .tail)) in
     let acc : Accepts bs r T =
-        record {
-          short = short;
-          file = record { symbols = ss; tail = k .tail; is = text; named = k .named; sides = c .sides; ending = k .ending };
-          model = snd;
-        } in
+    record {
+      short = short;
+      file = record { symbols = ss; tail = k .tail; is = text; named = k .named; sides = c .sides; ending = k .ending };
+      model = snd;
+    } in
     (subst (λ g. Accepts bs m g) (sym (k .gates)) (subst (λ x. Accepts bs x T) (sym (k .model)) acc), ap length (k .gates) ∙ c .gatePlaces)
 
 headed-took : (n : ℕ) (o : Option Parts) (d : Filled) → headed n o ≡ Ok d → (p : Parts) × (o ≡ Some p) × (sizedThen n (p .back) (headerOf (p .front)) ≡ Ok d)

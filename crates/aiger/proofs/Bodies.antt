@@ -124,12 +124,12 @@ gates-leave st e =
     ap (beside (st .gates)) (cond-true (eqb (st .reader .place) (st .reader .model .«gate_count»)) _ _ (eq-eqb _ _ e))
 
 output-forward : (at : ℕ) (st : State) (l : Literal) → over (outgoing st .reader) l ≡ false
-  → advance at (one (l .code)) (outgoing st) ≡ gatesSection .leave (stateOf (putOutput l (outgoing st .reader)) (st .gates))
+    → advance at (one (l .code)) (outgoing st) ≡ gatesSection .leave (stateOf (putOutput l (outgoing st .reader)) (st .gates))
 unfolding advance outputOn gatesSection
 output-forward at st l e = ap (beside (st .gates)) (cond-false (over (outgoing st .reader) l) _ _ e)
 
 output-backward : (at : ℕ) (c : Content) (st u : State) → advance at c (outgoing st) ≡ Ok u
-  → (l : Literal) × (c ≡ one (l .code)) × (over (outgoing st .reader) l ≡ false) × (gatesSection .leave (stateOf (putOutput l (outgoing st .reader)) (st .gates)) ≡ Ok u)
+    → (l : Literal) × (c ≡ one (l .code)) × (over (outgoing st .reader) l ≡ false) × (gatesSection .leave (stateOf (putOutput l (outgoing st .reader)) (st .gates)) ≡ Ok u)
 unfolding advance outputOn gatesSection
 output-backward at c st u e =
     let r = outgoing st .reader in
@@ -191,24 +191,25 @@ unfolding startOf inputsSection
 start-folded h n cs = refl
 
 pub body-forward : (h : Header) (n : ℕ) (b : Body) (ds : List Content) → Fine h n b
-  → (at : ℕ) × (folded 2 (linesOfBody b ++ ds) (stateOf (startOf h) (replicate n blankGate)) ≡ folded at ds (state₄ h n b))
+    → (at : ℕ) × (folded 2 (linesOfBody b ++ ds) (stateOf (startOf h) (replicate n blankGate)) ≡ folded at ds (state₄ h n b))
 body-forward h n b ds f =
     let gates = map gateLine (b .gates) ++ ds in
     let tail = map latchLine (b .latches) ++ (one (b .output .code) ∷ gates) in
     let at₁ = 2 + length (b .inputs) in
     let at₂ = at₁ + length (b .latches) in
-    let at₃ = at₂ + 1 + length (b .gates) in
-    (at₃,
-     ap (λ cs. folded 2 cs (stateOf (startOf h) (replicate n blankGate))) (lines-assoc b ds)
-     ∙ start-folded h n (map inputLine (b .inputs) ++ tail)
-     ∙ section-forward inputsSection (b .inputs) 2 (state₀ h n) tail (in₀ h n) (left₀ h n ∙ sym (f .inputCount)) (f .inputs)
-     ∙ ap (λ x. andThen x λ u. folded at₁ tail u) (inputs-leave (full₀ h n b) (place₀ h n b (f .inputCount)))
-     ∙ section-forward latchesSection (b .latches) at₁ (state₁ h n b) (one (b .output .code) ∷ gates) (in₁ h n b) (left₁ h n b ∙ sym (f .latchCount)) (f .latches)
-     ∙ ap (λ x. andThen x λ u. folded at₂ (one (b .output .code) ∷ gates) u) (latches-leave (full₁ h n b) (place₁ h n b (f .latchCount)))
-     ∙ ap (λ x. andThen x λ u. folded (at₂ + 1) gates u) (output-forward at₂ (full₁ h n b) (b .output) (f .output))
-     ∙ section-forward gatesSection (b .gates) (at₂ + 1) (state₃ h n b) ds (in₃ h n b) (left₃ h n b ∙ sym (f .gateCount)) (f .gates)
-     ∙ ap (λ x. andThen x λ u. folded at₃ ds u) (gates-leave (full₃ h n b) (place₃ h n b (f .gateCount))
-        ∙ ap (λ x. beside (full₃ h n b .gates) (andThen x λ _. Ok (goto Symbols (full₃ h n b .reader)))) (f .closed)))
+    let at₃ = at₂ + 1 + length (b .gates) in (
+      at₃,
+      ap (λ cs. folded 2 cs (stateOf (startOf h) (replicate n blankGate))) (lines-assoc b ds)
+          ∙ start-folded h n (map inputLine (b .inputs) ++ tail)
+          ∙ section-forward inputsSection (b .inputs) 2 (state₀ h n) tail (in₀ h n) (left₀ h n ∙ sym (f .inputCount)) (f .inputs)
+          ∙ ap (λ x. andThen x λ u. folded at₁ tail u) (inputs-leave (full₀ h n b) (place₀ h n b (f .inputCount)))
+          ∙ section-forward latchesSection (b .latches) at₁ (state₁ h n b) (one (b .output .code) ∷ gates) (in₁ h n b) (left₁ h n b ∙ sym (f .latchCount)) (f .latches)
+          ∙ ap (λ x. andThen x λ u. folded at₂ (one (b .output .code) ∷ gates) u) (latches-leave (full₁ h n b) (place₁ h n b (f .latchCount)))
+          ∙ ap (λ x. andThen x λ u. folded (at₂ + 1) gates u) (output-forward at₂ (full₁ h n b) (b .output) (f .output))
+          ∙ section-forward gatesSection (b .gates) (at₂ + 1) (state₃ h n b) ds (in₃ h n b) (left₃ h n b ∙ sym (f .gateCount)) (f .gates)
+          ∙ ap (λ x. andThen x λ u. folded at₃ ds u) (gates-leave (full₃ h n b) (place₃ h n b (f .gateCount))
+          ∙ ap (λ x. beside (full₃ h n b .gates) (andThen x λ _. Ok (goto Symbols (full₃ h n b .reader)))) (f .closed)),
+    )
 
 pub record BodyLines (h : Header) (n : ℕ) (cs : List Content) (t : State) : Type 0 where
   pub body : Body
@@ -220,9 +221,9 @@ pub record BodyLines (h : Header) (n : ℕ) (cs : List Content) (t : State) : Ty
 
 -- the gates and what follows, after the other sections
 gates-backward : (h : Header) (n at : ℕ) (ls : List Literal) (lats : List Latch) (o : Literal) (cs : List Content) (t : State)
-  → (let b : Body = record { inputs = ls; latches = lats; output = o; gates = [] } in
-     andThen (gatesSection .leave (state₃ h n b)) (λ u. folded at cs u) ≡ Ok t
-     → Lines gatesSection (h .gates) at (state₃ h n b) cs t)
+    → (let b : Body = record { inputs = ls; latches = lats; output = o; gates = [] } in
+    andThen (gatesSection .leave (state₃ h n b)) (λ u. folded at cs u) ≡ Ok t
+    → Lines gatesSection (h .gates) at (state₃ h n b) cs t)
 gates-backward h n at ls lats o cs t e =
     let b : Body = record { inputs = ls; latches = lats; output = o; gates = [] } in
     section-backward gatesSection (h .gates) at (state₃ h n b) cs t (in₃ h n b) (left₃ h n b) e
@@ -250,7 +251,7 @@ output-line at st (c ∷ cs) t e =
 
 -- the gates are closed by the next literals and the output
 close-took : (st : State) (at : ℕ) (cs : List Content) (t : State) → st .reader .place ≡ st .reader .model .«gate_count»
-  → andThen (gatesSection .leave st) (λ u. folded at cs u) ≡ Ok t → (closeOn (st .reader) ≡ Ok tt) × (folded at cs (stateOf (goto Symbols (st .reader)) (st .gates)) ≡ Ok t)
+    → andThen (gatesSection .leave st) (λ u. folded at cs u) ≡ Ok t → (closeOn (st .reader) ≡ Ok tt) × (folded at cs (stateOf (goto Symbols (st .reader)) (st .gates)) ≡ Ok t)
 close-took st at cs t p e =
     let d = ap (λ x. andThen x λ u. folded at cs u) (sym (gates-leave st p)) ∙ e in
     let a = then-took (beside (st .gates) (andThen (closeOn (st .reader)) λ _. Ok (goto Symbols (st .reader)))) (λ u. folded at cs u) t d in
@@ -275,12 +276,18 @@ body-backward h n cs t e =
     record {
       body = b;
       fine = record {
-        inputCount = i .many; latchCount = l .many; gateCount = g .many;
-        inputs = i .fine; latches = l .fine; output = o .low; gates = g .fine; closed = c .0;
+        inputCount = i .many;
+        latchCount = l .many;
+        gateCount = g .many;
+        inputs = i .fine;
+        latches = l .fine;
+        output = o .low;
+        gates = g .fine;
+        closed = c .0;
       };
       rest = g .rest;
       is = i .is ∙ ap (λ r. map inputLine (i .things) ++ r) (l .is ∙ ap (λ r. map latchLine (l .things) ++ r) (o .is ∙ ap (λ r. one (o .literal .code) ∷ r) (g .is)))
-        ∙ sym (lines-assoc b (g .rest));
+          ∙ sym (lines-assoc b (g .rest));
       at = 2 + h .inputs + h .latches + 1 + h .gates;
       others = c .1;
     }

@@ -87,16 +87,19 @@ inputsSection =
       In = λ st. (st .reader .section ≡ Inputs) × (st .reader .place ≤ st .reader .model .«input_count»);
       stays = λ st i some. ap (λ r. Ok (stateOf r (st .gates))) (cond-false (eqb (st .reader .place) (st .reader .model .«input_count»)) _ _ (grind (arith, tells)));
       forward = λ at l st i some f.
-        ap (λ q. advanceAt q at (one (l .code)) st) (i .0)
-        ∙ ap (λ x. beside (st .gates) (andThen x λ _. Ok (leaveInputs (putInput l (st .reader))))) (fresh-forward at l (st .reader) f);
+          ap (λ q. advanceAt q at (one (l .code)) st) (i .0)
+          ∙ ap (λ x. beside (st .gates) (andThen x λ _. Ok (leaveInputs (putInput l (st .reader))))) (fresh-forward at l (st .reader) f);
       backward = λ at c st u i some e.
-        let a = one-took (λ a. beside (st .gates) (inputOn at (lit a) (st .reader))) (fault.Malformed at) c u (ap (λ q. advanceAt q at c st) (sym (i .0)) ∙ e) in
-        let b = then-took (inputOn at (lit (a .0)) (st .reader)) (λ r. Ok (stateOf r (st .gates))) u (a .2) in
-        let d = then-took (freshOn at (lit (a .0)) (st .reader)) (λ _. Ok (leaveInputs (putInput (lit (a .0)) (st .reader)))) (b .0) (b .1) in
-        (lit (a .0), a .1, fresh-backward at (lit (a .0)) (st .reader) (unit-ok _ (d .0) (d .1)),
-         (let r : leaveInputs (putInput (lit (a .0)) (st .reader)) ≡ b .0 = cc in ap (λ r. Ok (stateOf r (st .gates))) r ∙ b .2));
+          let a = one-took (λ a. beside (st .gates) (inputOn at (lit a) (st .reader))) (fault.Malformed at) c u (ap (λ q. advanceAt q at c st) (sym (i .0)) ∙ e) in
+          let b = then-took (inputOn at (lit (a .0)) (st .reader)) (λ r. Ok (stateOf r (st .gates))) u (a .2) in
+          let d = then-took (freshOn at (lit (a .0)) (st .reader)) (λ _. Ok (leaveInputs (putInput (lit (a .0)) (st .reader)))) (b .0) (b .1) in (
+            lit (a .0),
+            a .1,
+            fresh-backward at (lit (a .0)) (st .reader) (unit-ok _ (d .0) (d .1)),
+            (let r : leaveInputs (putInput (lit (a .0)) (st .reader)) ≡ b .0 = cc in ap (λ r. Ok (stateOf r (st .gates))) r ∙ b .2),
+          );
       open-ended = λ at st t i some e.
-        no-err (fault.Malformed at) t (ap (λ q. andThen (endAt q at (st .reader .model)) λ _. Ok st) (sym (i .0)) ∙ e);
+          no-err (fault.Malformed at) t (ap (λ q. andThen (endAt q at (st .reader .model)) λ _. Ok st) (sym (i .0)) ∙ e);
       keeps = λ l st i some. (i .0, omega arith);
       counts = λ l st i some. omega arith;
     }
@@ -131,15 +134,15 @@ latchesSection =
       In = λ st. (st .reader .section ≡ Latches) × (st .reader .place ≤ st .reader .model .«latch_count»);
       stays = λ st i some. ap (λ r. Ok (stateOf r (st .gates))) (cond-false (eqb (st .reader .place) (st .reader .model .«latch_count»)) _ _ (grind (arith, tells)));
       forward = λ at l st i some f.
-        ap (λ q. advanceAt q at (latchLine l) st) (i .0) ∙ ap (beside (st .gates)) (latch-forward at l (st .reader) f);
+          ap (λ q. advanceAt q at (latchLine l) st) (i .0) ∙ ap (beside (st .gates)) (latch-forward at l (st .reader) f);
       backward = λ at c st u i some e.
-        let a = two-took (λ a b. beside (st .gates) (latchOn at (record { literal = lit a; next = lit b }) (st .reader))) (fault.Malformed at) c u (ap (λ q. advanceAt q at c st) (sym (i .0)) ∙ e) in
-        let l : Latch = record { literal = lit (a .0); next = lit (a .1) } in
-        let b = then-took (latchOn at l (st .reader)) (λ r. Ok (stateOf r (st .gates))) u (a .3) in
-        let d = latch-backward at l (st .reader) (b .0) (b .1) in
-        (l, a .2, d .0, ap (λ r. Ok (stateOf r (st .gates))) (d .1) ∙ b .2);
+          let a = two-took (λ a b. beside (st .gates) (latchOn at (record { literal = lit a; next = lit b }) (st .reader))) (fault.Malformed at) c u (ap (λ q. advanceAt q at c st) (sym (i .0)) ∙ e) in
+          let l : Latch = record { literal = lit (a .0); next = lit (a .1) } in
+          let b = then-took (latchOn at l (st .reader)) (λ r. Ok (stateOf r (st .gates))) u (a .3) in
+          let d = latch-backward at l (st .reader) (b .0) (b .1) in
+          (l, a .2, d .0, ap (λ r. Ok (stateOf r (st .gates))) (d .1) ∙ b .2);
       open-ended = λ at st t i some e.
-        no-err (fault.Malformed at) t (ap (λ q. andThen (endAt q at (st .reader .model)) λ _. Ok st) (sym (i .0)) ∙ e);
+          no-err (fault.Malformed at) t (ap (λ q. andThen (endAt q at (st .reader .model)) λ _. Ok st) (sym (i .0)) ∙ e);
       keeps = λ l st i some. (i .0, omega arith);
       counts = λ l st i some. omega arith;
     }
@@ -191,12 +194,12 @@ gatesSection =
       stays = λ st i some. ap (beside (st .gates)) (cond-false (eqb (st .reader .place) (st .reader .model .«gate_count»)) _ _ (grind (arith, tells)));
       forward = λ at g st i some f. ap (λ q. advanceAt q at (gateLine g) st) (i .0) ∙ gate-forward at g st f;
       backward = λ at c st u i some e.
-        let a = three-took (λ a b d. gateOn at (record { output = lit a; left = lit b; right = lit d }) st) (fault.Malformed at) c u (ap (λ q. advanceAt q at c st) (sym (i .0)) ∙ e) in
-        let g : Gate = record { output = lit (a .0); left = lit (a .1); right = lit (a .2) } in
-        let d = gate-backward at g st u (a .4) in
-        (g, a .3, d .0, d .1);
+          let a = three-took (λ a b d. gateOn at (record { output = lit a; left = lit b; right = lit d }) st) (fault.Malformed at) c u (ap (λ q. advanceAt q at c st) (sym (i .0)) ∙ e) in
+          let g : Gate = record { output = lit (a .0); left = lit (a .1); right = lit (a .2) } in
+          let d = gate-backward at g st u (a .4) in
+          (g, a .3, d .0, d .1);
       open-ended = λ at st t i some e.
-        no-err (fault.Malformed at) t (ap (λ q. andThen (endAt q at (st .reader .model)) λ _. Ok st) (sym (i .0)) ∙ e);
+          no-err (fault.Malformed at) t (ap (λ q. andThen (endAt q at (st .reader .model)) λ _. Ok st) (sym (i .0)) ∙ e);
       keeps = λ l st i some. (i .0, omega arith);
       counts = λ l st i some. omega arith;
     }

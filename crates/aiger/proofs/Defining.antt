@@ -32,7 +32,7 @@ marks-more : (ds : List Bool) (vs : List ℕ) (v : ℕ) → v < length ds → Ma
 marks-more ds vs v h m u =
     ⊎-elim
     (λ e. subst (λ x. getD (set ds v true) x false ≡ (eqb x v || member x vs)) (sym e)
-      (getD-set-same ds v true false h ∙ ap (λ b. b || member v vs) (sym (eq-eqb v v refl))))
+    (getD-set-same ds v true false h ∙ ap (λ b. b || member v vs) (sym (eq-eqb v v refl))))
     (λ ne. getD-set-other ds v u true false ne ∙ m u ∙ ap (λ b. b || member u vs) (sym (ne-eqb u v ne)))
     (cases-eq u v)
 
@@ -50,7 +50,7 @@ pub knowing-start : (m : ℕ) → m ≤ 4096 → Knowing m (set (replicate 4097 
 knowing-start m h =
     let n : length (replicate 4097 false) ≡ 4097 = length-replicate 4097 false in
     let none : Marks (replicate 4097 false) [] = λ u.
-        ⊎-elim (λ l. getD-replicate 4097 u false false l) (λ l. getD-past (replicate 4097 false) u false (rw n l)) (cases-lt u 4097) in
+    ⊎-elim (λ l. getD-replicate 4097 u false false l) (λ l. getD-past (replicate 4097 false) u false (rw n l)) (cases-lt u 4097) in
     record {
       marks = marks-more (replicate 4097 false) [] 0 (rw n (omega arith)) none;
       places = length-set (replicate 4097 false) 0 true ∙ n;
@@ -91,9 +91,9 @@ inputs-fresh (l ∷ ls) st vs k =
     let s = fresh-same (st .reader) vs l k in
     ap (λ b. b && allOk putI okI ls (putI l st)) s
     ∙ ⊎-elim
-      (λ t. ap (λ b. fresh m vs l && b) (inputs-fresh ls (putI l st) (variableOf l ∷ vs) (knowing-more m (st .reader .defined) vs l k t)))
-      (λ f. and-left (fresh m vs l) _ f ∙ sym (and-left (fresh m vs l) _ f))
-      (cases-bool (fresh m vs l))
+    (λ t. ap (λ b. fresh m vs l && b) (inputs-fresh ls (putI l st) (variableOf l ∷ vs) (knowing-more m (st .reader .defined) vs l k t)))
+    (λ f. and-left (fresh m vs l) _ f ∙ sym (and-left (fresh m vs l) _ f))
+    (cases-bool (fresh m vs l))
 
 pub inputs-known : (ls : List Literal) (st : State) (vs : List ℕ) → Knows (st .reader) vs → allFresh (st .reader .model .maximum) vs ls ≡ true → Knows (puts putI ls st .reader) (defined vs ls)
 inputs-known [] st vs k f = k
@@ -110,7 +110,7 @@ abbrev pub nextsLow : ℕ → List Latch → Bool
 nextsLow m ls = every (λ l. leb (l .next .code) (2 * m + 1)) ls
 
 pub latches-forward : (ls : List Latch) (st : State) (vs : List ℕ) → Knows (st .reader) vs → allFresh (st .reader .model .maximum) vs (literals ls) ≡ true
-  → nextsLow (st .reader .model .maximum) ls ≡ true → allOk putL okL ls st ≡ true
+    → nextsLow (st .reader .model .maximum) ls ≡ true → allOk putL okL ls st ≡ true
 latches-forward [] st vs k f n = refl
 latches-forward (l ∷ ls) st vs k f n =
     let m = st .reader .model .maximum in
@@ -152,7 +152,7 @@ gate-same g st vs k =
     ap (λ b. not (over r (g .left) || over r (g .right)) && (okFresh r (g .output) && (b && knownTo r (g .right)))) (known-same r vs (g .left) k)
     ∙ ap (λ b. not (over r (g .left) || over r (g .right)) && (okFresh r (g .output) && (known vs (g .left) && b))) (known-same r vs (g .right) k)
     ∙ gate-tests (over r (g .left)) (over r (g .right)) (known vs (g .left)) (known vs (g .right)) (okFresh r (g .output)) (fresh (r .model .maximum) vs (g .output))
-      (known-under r vs (g .left) k) (known-under r vs (g .right) k) (fresh-same r vs (g .output) k)
+    (known-under r vs (g .left) k) (known-under r vs (g .right) k) (fresh-same r vs (g .output) k)
 
 and-right-assoc : (a b c d : Bool) → ((a && (b && c)) && d) ≡ (a && (b && (c && d)))
 and-right-assoc true true c d = refl
@@ -167,10 +167,10 @@ gates-fresh (g ∷ gs) st vs k =
     ap (λ b. b && others) (gate-same g st vs k)
     ∙ and-right-assoc (fresh m vs (g .output)) (known vs (g .left)) (known vs (g .right)) others
     ∙ ⊎-elim
-      (λ t. ap (λ b. fresh m vs (g .output) && (known vs (g .left) && (known vs (g .right) && b)))
-        (gates-fresh gs (putG g st) (variableOf (g .output) ∷ vs) (knowing-more m (st .reader .defined) vs (g .output) k t)))
-      (λ f. and-left (fresh m vs (g .output)) _ f ∙ sym (and-left (fresh m vs (g .output)) _ f))
-      (cases-bool (fresh m vs (g .output)))
+    (λ t. ap (λ b. fresh m vs (g .output) && (known vs (g .left) && (known vs (g .right) && b)))
+    (gates-fresh gs (putG g st) (variableOf (g .output) ∷ vs) (knowing-more m (st .reader .defined) vs (g .output) k t)))
+    (λ f. and-left (fresh m vs (g .output)) _ f ∙ sym (and-left (fresh m vs (g .output)) _ f))
+    (cases-bool (fresh m vs (g .output)))
 
 pub gates-known : (gs : List Gate) (st : State) (vs : List ℕ) → Knows (st .reader) vs → gatesOrdered (st .reader .model .maximum) vs gs ≡ true → Knows (puts putG gs st .reader) (defined vs (outputs gs))
 gates-known [] st vs k f = k
@@ -192,16 +192,17 @@ close-forward r vs at (l ∷ ls) k n o =
     cond-true (knownTo r (l .next)) _ _ (known-same r vs (l .next) k ∙ p .0) ∙ close-forward r vs (at + 1) ls k (p .1) o
 
 pub close-backward : (r : Reader) (vs : List ℕ) (at : ℕ) (ls : List Latch) → Knows r vs → closeFrom r at ls ≡ Ok tt → (nextsKnown vs ls ≡ true) × (known vs (r .model .output) ≡ true)
-close-backward r vs at [] k e =
-    (refl,
-     ⊎-elim (λ t. sym (known-same r vs (r .model .output) k) ∙ t)
-     (λ f. absurd (no-err (fault.Undefined at) tt (sym (cond-false (knownTo r (r .model .output)) _ _ f) ∙ e)))
-     (cases-bool (knownTo r (r .model .output))))
+close-backward r vs at [] k e = (
+  refl,
+  ⊎-elim (λ t. sym (known-same r vs (r .model .output) k) ∙ t)
+      (λ f. absurd (no-err (fault.Undefined at) tt (sym (cond-false (knownTo r (r .model .output)) _ _ f) ∙ e)))
+      (cases-bool (knownTo r (r .model .output))),
+)
 close-backward r vs at (l ∷ ls) k e =
     ⊎-elim
     (λ t.
-      let b = close-backward r vs (at + 1) ls k (sym (cond-true (knownTo r (l .next)) _ _ t) ∙ e) in
-      (and-from (known vs (l .next)) (nextsKnown vs ls) (sym (known-same r vs (l .next) k) ∙ t) (b .0), b .1))
+    let b = close-backward r vs (at + 1) ls k (sym (cond-true (knownTo r (l .next)) _ _ t) ∙ e) in
+    (and-from (known vs (l .next)) (nextsKnown vs ls) (sym (known-same r vs (l .next) k) ∙ t) (b .0), b .1))
     (λ f. absurd (no-err (fault.Undefined at) tt (sym (cond-false (knownTo r (l .next)) _ _ f) ∙ e)))
     (cases-bool (knownTo r (l .next)))
 

@@ -78,7 +78,7 @@ five-gives bs h e =
     let whole : Header = record { maximum = a .0 .value; inputs = b .0 .value; latches = c .0 .value; outputs = d .0 .value; gates = l .0 } in
     let is : whole ≡ h = l .2 in
     let text : bs ≡ numbersText whole =
-        a′ .0 ∙ ap (λ r. decimal (a .0 .value) ++ 32 ∷ r) (b′ .0 ∙ ap (λ r. decimal (b .0 .value) ++ 32 ∷ r) (c′ .0 ∙ ap (λ r. decimal (c .0 .value) ++ 32 ∷ r) (d′ .0 ∙ ap (λ r. decimal (d .0 .value) ++ 32 ∷ r) (sym (l′ .0))))) in
+    a′ .0 ∙ ap (λ r. decimal (a .0 .value) ++ 32 ∷ r) (b′ .0 ∙ ap (λ r. decimal (b .0 .value) ++ 32 ∷ r) (c′ .0 ∙ ap (λ r. decimal (c .0 .value) ++ 32 ∷ r) (d′ .0 ∙ ap (λ r. decimal (d .0 .value) ++ 32 ∷ r) (sym (l′ .0))))) in
     let small : Small whole = record { maximum = a′ .1; inputs = b′ .1; latches = c′ .1; outputs = d′ .1; gates = l′ .1 } in
     (text ∙ ap numbersText is, subst Small is small)
 

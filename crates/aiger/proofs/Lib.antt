@@ -1,10 +1,11 @@
-pub mod Files
-pub mod Fitting
-pub mod Headers
 pub mod Acceptance
 pub mod Bodies
 pub mod Counted
 pub mod Defining
+pub mod Files
+pub mod Fitting
+pub mod Headers
+pub mod Laws
 pub mod Lines
 pub mod Loops
 pub mod Named

@@ -29,7 +29,7 @@ flag-set : (ns : List Bool) (p q : ℕ) → p < length ns → getD (set ns p tru
 flag-set ns p q h =
     ⊎-elim
     (λ e. subst (λ x. getD (set ns p true) x false ≡ (eqb p x || getD ns x false)) e
-      (getD-set-same ns p true false h ∙ ap (λ b. b || getD ns p false) (sym (eq-eqb p p refl))))
+    (getD-set-same ns p true false h ∙ ap (λ b. b || getD ns p false) (sym (eq-eqb p p refl))))
     (λ ne. getD-set-other ns p q true false (λ e. ne (sym e)) ∙ ap (λ b. b || getD ns q false) (sym (ne-eqb p q ne)))
     (cases-eq p q)
 
@@ -46,17 +46,17 @@ count-same is m kind.Latch = refl
 count-same is m kind.Output = refl
 
 flagged-more : (k : SymbolKind) (p : ℕ) (name : List ℕ) (r : Reader) (m : Record) (es : List Symbol) → p < countOf m k → Flagged r m es
-  → Flagged (putNamed k p name r) m (record { kind = k; position = p; name = name } ∷ es)
+    → Flagged (putNamed k p name r) m (record { kind = k; position = p; name = name } ∷ es)
 flagged-more kind.Input p name r m es h f =
     record {
       counts = λ k. count-same (sidedInputs p name (r .model .inputs)) (r .model) k ∙ f .counts k;
       inputs = rw length-set (f .inputs);
       latches = f .latches;
       flags = λ k q l. elim k as (λ k. q < countOf m k → flagOf (putNamed kind.Input p name r .names) k q ≡ ((sameKind kind.Input k && eqb p q) || namedBy es k q)) [
-          kind.Input ↦ λ l. flag-set (r .names .inputs) p q (omega (arith, f .inputs)) ∙ ap (λ b. eqb p q || b) (f .flags kind.Input q l)
+        | kind.Input ↦ λ l. flag-set (r .names .inputs) p q (omega (arith, f .inputs)) ∙ ap (λ b. eqb p q || b) (f .flags kind.Input q l)
         | kind.Latch ↦ λ l. f .flags kind.Latch q l
         | kind.Output ↦ λ l. f .flags kind.Output q l
-        ] l;
+      ] l;
     }
 flagged-more kind.Latch p name r m es h f =
     record {
@@ -64,10 +64,10 @@ flagged-more kind.Latch p name r m es h f =
       inputs = f .inputs;
       latches = rw length-set (f .latches);
       flags = λ k q l. elim k as (λ k. q < countOf m k → flagOf (putNamed kind.Latch p name r .names) k q ≡ ((sameKind kind.Latch k && eqb p q) || namedBy es k q)) [
-          kind.Input ↦ λ l. f .flags kind.Input q l
+        | kind.Input ↦ λ l. f .flags kind.Input q l
         | kind.Latch ↦ λ l. flag-set (r .names .latches) p q (omega (arith, f .latches)) ∙ ap (λ b. eqb p q || b) (f .flags kind.Latch q l)
         | kind.Output ↦ λ l. f .flags kind.Output q l
-        ] l;
+      ] l;
     }
 flagged-more kind.Output p name r m es h f =
     record {
@@ -75,10 +75,10 @@ flagged-more kind.Output p name r m es h f =
       inputs = f .inputs;
       latches = f .latches;
       flags = λ k q l. elim k as (λ k. q < countOf m k → flagOf (putNamed kind.Output p name r .names) k q ≡ ((sameKind kind.Output k && eqb p q) || namedBy es k q)) [
-          kind.Input ↦ λ l. f .flags kind.Input q l
+        | kind.Input ↦ λ l. f .flags kind.Input q l
         | kind.Latch ↦ λ l. f .flags kind.Latch q l
         | kind.Output ↦ λ l. let e : p ≡ q = omega arith in sym (ap (λ b. b || namedBy es kind.Output q) (eq-eqb p q e))
-        ] l;
+      ] l;
     }
 
 pub well-forward : (ss es : List Symbol) (r : Reader) (m : Record) → Flagged r m es → wellNamed m es ss ≡ true → allOkS ss r ≡ true
@@ -91,7 +91,7 @@ well-forward (s ∷ ss) es r m f h =
     let low = ltb-true (s .position) (countOf m (s .kind)) (a .0) in
     and-from (okS s r) (allOkS ss (putS s r))
     (and-from (ltb (s .position) (countOf (r .model) (s .kind))) _ (ap (ltb (s .position)) (f .counts (s .kind)) ∙ a .0)
-      (ap not (f .flags (s .kind) (s .position) low) ∙ b .0))
+    (ap not (f .flags (s .kind) (s .position) low) ∙ b .0))
     (well-forward ss (s ∷ es) (putS s r) m (flagged-more (s .kind) (s .position) (s .name) r m es low f) (d .1))
 
 without-later : (b : ℕ) (xs ys : List ℕ) → without b (xs ++ ys) ≡ true → without b ys ≡ true
@@ -142,16 +142,16 @@ sided-one kind.Output p name is j d h = refl
 sided-one kind.Input p name is j d h =
     ⊎-elim
     (λ c.
-      ⊎-elim
-      (λ e. subst (λ p. getD (sidedInputs p name is) j d ≡ sideOf (eqb p j && controllable name) (getD is j d)) (sym e)
-        (ap (λ x. getD x j d) (cond-true (controllable name) _ _ c) ∙ getD-set-same is j _ d h
-         ∙ ap answerInput (getD-default is j blankInput d h)
-         ∙ sym (cond-true (eqb j j && controllable name) _ _ (and-from (eqb j j) (controllable name) (eq-eqb j j refl) c))))
-      (λ ne. ap (λ x. getD x j d) (cond-true (controllable name) _ _ c) ∙ getD-set-other is p j _ d (λ e. ne (sym e))
-         ∙ sym (cond-false (eqb p j && controllable name) _ _ (ap (λ b. b && controllable name) (ne-eqb p j ne))))
-      (cases-eq p j))
+    ⊎-elim
+    (λ e. subst (λ p. getD (sidedInputs p name is) j d ≡ sideOf (eqb p j && controllable name) (getD is j d)) (sym e)
+    (ap (λ x. getD x j d) (cond-true (controllable name) _ _ c) ∙ getD-set-same is j _ d h
+    ∙ ap answerInput (getD-default is j blankInput d h)
+    ∙ sym (cond-true (eqb j j && controllable name) _ _ (and-from (eqb j j) (controllable name) (eq-eqb j j refl) c))))
+    (λ ne. ap (λ x. getD x j d) (cond-true (controllable name) _ _ c) ∙ getD-set-other is p j _ d (λ e. ne (sym e))
+    ∙ sym (cond-false (eqb p j && controllable name) _ _ (ap (λ b. b && controllable name) (ne-eqb p j ne))))
+    (cases-eq p j))
     (λ c. ap (λ x. getD x j d) (cond-false (controllable name) _ _ c)
-       ∙ sym (cond-false (eqb p j && controllable name) _ _ (grind (arith, tells))))
+    ∙ sym (cond-false (eqb p j && controllable name) _ _ (grind (arith, tells))))
     (cases-bool (controllable name))
 
 side-twice : (a b : Bool) (i : Input) → sideOf b (sideOf a i) ≡ sideOf (a || b) i

@@ -86,7 +86,7 @@ symbol-advance at s st e h =
     ∙ ap (beside (st .gates)) (named-forward at (s .kind) (s .position) (s .name) (st .reader) h)
 
 pub symbols-forward : (ss : List Symbol) (at : ℕ) (st : State) (tail : List Content) → st .reader .section ≡ Symbols → allOkS ss (st .reader) ≡ true
-  → folded at (map symbolLine ss ++ tail) st ≡ folded (at + length ss) tail (stateOf (putsS ss (st .reader)) (st .gates))
+    → folded at (map symbolLine ss ++ tail) st ≡ folded (at + length ss) tail (stateOf (putsS ss (st .reader)) (st .gates))
 symbols-forward [] at st tail e h = ap (λ n. folded n tail st) (sym (add-zero at))
 symbols-forward (s ∷ ss) at st tail e h =
     let p = and-parts (okS s (st .reader)) (allOkS ss (putS s (st .reader))) h in
@@ -111,7 +111,7 @@ unfolding endOn
 end-forward at st e = ap (λ q. andThen (endAt q at (st .reader .model)) λ _. Ok st) e
 
 pub comment-forward : (at : ℕ) (cs : List Content) (st : State) → st .reader .section ≡ Symbols
-  → folded at (comment ∷ cs) st ≡ andThen (sidesOn (st .reader .model)) λ _. Ok (stateOf (commented (st .reader)) (st .gates))
+    → folded at (comment ∷ cs) st ≡ andThen (sidesOn (st .reader .model)) λ _. Ok (stateOf (commented (st .reader)) (st .gates))
 unfolding advance
 comment-forward at cs st e =
     ap (λ q. andThen (advanceAt q at comment st) λ t. folded (at + 1) cs t) e
@@ -136,7 +136,7 @@ unit-same x tt e = e
 
 -- one line after the gates: a symbol, the comment, or a refusal
 symbol-took : (f : SymbolKind → ℕ → List ℕ → Result State ReadFault) (x : State) (d : ReadFault) (c : Content) (u : State) → onSymbol f (Ok x) (Err d) c ≡ Ok u
-  → ((k : SymbolKind) × (p : ℕ) × (name : List ℕ) × (c ≡ symbol k p name) × (f k p name ≡ Ok u)) ⊎ ((c ≡ comment) × (x ≡ u))
+    → ((k : SymbolKind) × (p : ℕ) × (name : List ℕ) × (c ≡ symbol k p name) × (f k p name ≡ Ok u)) ⊎ ((c ≡ comment) × (x ≡ u))
 symbol-took f x d (one a) u e = absurd (no-err d u e)
 symbol-took f x d (two a b) u e = absurd (no-err d u e)
 symbol-took f x d (three a b c) u e = absurd (no-err d u e)
@@ -145,16 +145,16 @@ symbol-took f x d comment u e = inr (refl, (cc))
 symbol-took f x d malformed u e = absurd (no-err d u e)
 
 line-took : (at : ℕ) (c : Content) (st u : State) → st .reader .section ≡ Symbols → advance at c st ≡ Ok u
-  → ((s : Symbol) × (c ≡ symbolLine s) × (okS s (st .reader) ≡ true) × (u ≡ stateOf (putS s (st .reader)) (st .gates)))
-  ⊎ ((c ≡ comment) × (u ≡ stateOf (commented (st .reader)) (st .gates)))
+    → ((s : Symbol) × (c ≡ symbolLine s) × (okS s (st .reader) ≡ true) × (u ≡ stateOf (putS s (st .reader)) (st .gates)))
+    ⊎ ((c ≡ comment) × (u ≡ stateOf (commented (st .reader)) (st .gates)))
 unfolding advance
 line-took at c st u e a =
     ⊎-elim
     (λ w.
-      let b = then-took (symbolOn at (w .0) (w .1) (w .2) (st .reader)) (λ r. Ok (stateOf r (st .gates))) u (w .4) in
-      let d = named-backward at (w .0) (w .1) (w .2) (st .reader) (b .0) (b .1) in
-      let g : stateOf (b .0) (st .gates) ≡ u = let h = b .2 in cc in
-      inl (record { kind = w .0; position = w .1; name = w .2 }, w .3, d .0, sym (ap (λ r. stateOf r (st .gates)) (d .1) ∙ g)))
+    let b = then-took (symbolOn at (w .0) (w .1) (w .2) (st .reader)) (λ r. Ok (stateOf r (st .gates))) u (w .4) in
+    let d = named-backward at (w .0) (w .1) (w .2) (st .reader) (b .0) (b .1) in
+    let g : stateOf (b .0) (st .gates) ≡ u = let h = b .2 in cc in
+    inl (record { kind = w .0; position = w .1; name = w .2 }, w .3, d .0, sym (ap (λ r. stateOf r (st .gates)) (d .1) ∙ g)))
     (λ w. inr (w .0, sym (w .1)))
     (symbol-took _ _ (fault.BadSymbol at) c u (ap (λ q. advanceAt q at c st) (sym e) ∙ a))
 
@@ -163,7 +163,11 @@ symbols-backward [] at st t e f =
     let a = then-took (sidesOn (st .reader .model)) (λ _. Ok st) t (sym (end-forward at st e) ∙ f) in
     let same : st ≡ t = let h = a .2 in cc in
     record {
-      symbols = []; tail = []; is = refl; fine = refl; ending = inl refl;
+      symbols = [];
+      tail = [];
+      is = refl;
+      fine = refl;
+      ending = inl refl;
       sides = unit-same _ (a .0) (a .1);
       model = ap (λ s. s .reader .model) (sym same);
       gates = ap (λ s. s .gates) (sym same);
@@ -172,27 +176,34 @@ symbols-backward (c ∷ cs) at st t e f =
     let a = then-took (advance at c st) (λ u. folded (at + 1) cs u) t f in
     ⊎-elim
     (λ w.
-      let next = stateOf (putS (w .0) (st .reader)) (st .gates) in
-      let on : folded (at + 1) cs next ≡ Ok t = subst (λ u. folded (at + 1) cs u ≡ Ok t) (w .3) (a .2) in
-      let l = symbols-backward cs (at + 1) next t (put-section (w .0 .kind) (w .0 .position) (w .0 .name) (st .reader) ∙ e) on in
-      record {
-        symbols = w .0 ∷ l .symbols; tail = l .tail;
-        is = ap (λ d. d ∷ cs) (w .1) ∙ ap (λ r. symbolLine (w .0) ∷ r) (l .is);
-        fine = and-from (okS (w .0) (st .reader)) _ (w .2) (l .fine);
-        ending = l .ending; sides = l .sides; model = l .model; gates = l .gates;
-      })
+    let next = stateOf (putS (w .0) (st .reader)) (st .gates) in
+    let on : folded (at + 1) cs next ≡ Ok t = subst (λ u. folded (at + 1) cs u ≡ Ok t) (w .3) (a .2) in
+    let l = symbols-backward cs (at + 1) next t (put-section (w .0 .kind) (w .0 .position) (w .0 .name) (st .reader) ∙ e) on in
+    record {
+      symbols = w .0 ∷ l .symbols;
+      tail = l .tail;
+      is = ap (λ d. d ∷ cs) (w .1) ∙ ap (λ r. symbolLine (w .0) ∷ r) (l .is);
+      fine = and-from (okS (w .0) (st .reader)) _ (w .2) (l .fine);
+      ending = l .ending;
+      sides = l .sides;
+      model = l .model;
+      gates = l .gates;
+    })
     (λ w.
-      let next = stateOf (commented (st .reader)) (st .gates) in
-      let on : folded (at + 1) cs next ≡ Ok t = subst (λ u. folded (at + 1) cs u ≡ Ok t) (w .1) (a .2) in
-      let b = then-took (sidesOn (st .reader .model)) (λ _. Ok next) t (sym (comment-fold cs (at + 1) next refl) ∙ on) in
-      let same : next ≡ t = let h = b .2 in cc in
-      record {
-        symbols = []; tail = c ∷ cs; is = refl; fine = refl;
-        ending = inr (cs, ap (λ d. d ∷ cs) (w .0));
-        sides = unit-same _ (b .0) (b .1);
-        model = ap (λ s. s .reader .model) (sym same);
-        gates = ap (λ s. s .gates) (sym same);
-      })
+    let next = stateOf (commented (st .reader)) (st .gates) in
+    let on : folded (at + 1) cs next ≡ Ok t = subst (λ u. folded (at + 1) cs u ≡ Ok t) (w .1) (a .2) in
+    let b = then-took (sidesOn (st .reader .model)) (λ _. Ok next) t (sym (comment-fold cs (at + 1) next refl) ∙ on) in
+    let same : next ≡ t = let h = b .2 in cc in
+    record {
+      symbols = [];
+      tail = c ∷ cs;
+      is = refl;
+      fine = refl;
+      ending = inr (cs, ap (λ d. d ∷ cs) (w .0));
+      sides = unit-same _ (b .0) (b .1);
+      model = ap (λ s. s .reader .model) (sym same);
+      gates = ap (λ s. s .gates) (sym same);
+    })
     (line-took at c st (a .0) e (a .1))
 
 -- the record after some symbols

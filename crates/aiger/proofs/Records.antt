@@ -89,8 +89,8 @@ blanks-past r gs b =
     and-from (every isBlankInput (drop (r .«input_count») (r .inputs))) _
     (ap (every isBlankInput) (b .inputs) ∙ blank-every isBlankInput blankInput (length (r .inputs) - r .«input_count») refl)
     (and-from (every isBlankLatch (drop (r .«latch_count») (r .latches))) _
-      (ap (every isBlankLatch) (b .latches) ∙ blank-every isBlankLatch blankLatch (length (r .latches) - r .«latch_count») refl)
-      (ap (every isBlankGate) (b .gates) ∙ blank-every isBlankGate blankGate (length gs - r .«gate_count») refl))
+    (ap (every isBlankLatch) (b .latches) ∙ blank-every isBlankLatch blankLatch (length (r .latches) - r .«latch_count») refl)
+    (ap (every isBlankGate) (b .gates) ∙ blank-every isBlankGate blankGate (length gs - r .«gate_count») refl))
 
 -- a table with its first places set
 pub filled-take : {X : Type 0} (xs : List X) (n : ℕ) (b : X) → length xs ≤ n → take (length xs) (setAll (replicate n b) 0 xs) ≡ xs
@@ -123,15 +123,15 @@ module _ (ls : List Literal) (few : length ls ≤ 24) where
 
   plain-at : (j : ℕ) → j < length ls → getD (plainInputs ls) j blankInput ≡ eventInput (getD ls j blankLiteral)
   plain-at j h =
-    ap (λ t. getD t j blankInput) plain-is
-    ∙ getD-append-left (map eventInput ls) _ blankInput j (rw length-map h)
-    ∙ getD-map eventInput ls j blankLiteral blankInput h
+      ap (λ t. getD t j blankInput) plain-is
+      ∙ getD-append-left (map eventInput ls) _ blankInput j (rw length-map h)
+      ∙ getD-map eventInput ls j blankLiteral blankInput h
 
   plain-past : (j : ℕ) → length ls ≤ j → j < 24 → getD (plainInputs ls) j blankInput ≡ blankInput
   plain-past j h k =
-    ap (λ t. getD t j blankInput) plain-is
-    ∙ getD-append-right (map eventInput ls) _ (length ls) j blankInput (length-map ls eventInput) h
-    ∙ getD-replicate (24 - length (map eventInput ls)) (j - length ls) blankInput blankInput (rw length-map (omega arith))
+      ap (λ t. getD t j blankInput) plain-is
+      ∙ getD-append-right (map eventInput ls) _ (length ls) j blankInput (length-map ls eventInput) h
+      ∙ getD-replicate (24 - length (map eventInput ls)) (j - length ls) blankInput blankInput (rw length-map (omega arith))
 
   pub table-length : (ss : List Symbol) → length (sidedTable ls ss) ≡ 24
   table-length ss = sided-all-length ss (plainInputs ls) ∙ plain-length
@@ -149,31 +149,31 @@ module _ (ls : List Literal) (few : length ls ≤ 24) where
 
   pub table-literal : (ss : List Symbol) (j : ℕ) → j < length ls → getD (sidedTable ls ss) j blankInput .literal ≡ getD ls j blankLiteral
   table-literal ss j h =
-    ap (λ i. i .literal) (table-at ss j (omega arith)) ∙ side-literal (namesAnswer ss j) (getD (plainInputs ls) j blankInput)
-    ∙ ap (λ i. i .literal) (plain-at j h)
+      ap (λ i. i .literal) (table-at ss j (omega arith)) ∙ side-literal (namesAnswer ss j) (getD (plainInputs ls) j blankInput)
+      ∙ ap (λ i. i .literal) (plain-at j h)
 
   pub table-side : (ss : List Symbol) (j : ℕ) → j < length ls → answers? (getD (sidedTable ls ss) j blankInput .side) ≡ namesAnswer ss j
   table-side ss j h =
-    ap (λ i. answers? (i .side)) (table-at ss j (omega arith) ∙ ap (sideOf (namesAnswer ss j)) (plain-at j h))
-    ∙ side-answers (namesAnswer ss j) (getD ls j blankLiteral)
+      ap (λ i. answers? (i .side)) (table-at ss j (omega arith) ∙ ap (sideOf (namesAnswer ss j)) (plain-at j h))
+      ∙ side-answers (namesAnswer ss j) (getD ls j blankLiteral)
 
   pub table-past : (ss es : List Symbol) (m : Record) (j : ℕ) → m .«input_count» ≡ length ls → wellNamed m es ss ≡ true → length ls ≤ j → j < 24 → getD (sidedTable ls ss) j blankInput ≡ blankInput
   table-past ss es m j c w h k =
-    table-at ss j k ∙ ap (λ b. sideOf b (getD (plainInputs ls) j blankInput)) (names-none ss es m j (omega arith) w) ∙ plain-past j h k
+      table-at ss j k ∙ ap (λ b. sideOf b (getD (plainInputs ls) j blankInput)) (names-none ss es m j (omega arith) w) ∙ plain-past j h k
 
   pub table-drop : (ss es : List Symbol) (m : Record) → m .«input_count» ≡ length ls → wellNamed m es ss ≡ true → drop (length ls) (sidedTable ls ss) ≡ replicate (24 - length ls) blankInput
   table-drop ss es m c w =
-    let n : length (drop (length ls) (sidedTable ls ss)) ≡ 24 - length ls = length-drop (length ls) (sidedTable ls ss) ∙ ap (λ k. k - length ls) (table-length ss) in
-    ext-getD blankInput (drop (length ls) (sidedTable ls ss)) (replicate (24 - length ls) blankInput) (n ∙ sym (length-replicate (24 - length ls) blankInput))
-    λ i h. getD-drop (length ls) (sidedTable ls ss) i blankInput
+      let n : length (drop (length ls) (sidedTable ls ss)) ≡ 24 - length ls = length-drop (length ls) (sidedTable ls ss) ∙ ap (λ k. k - length ls) (table-length ss) in
+      ext-getD blankInput (drop (length ls) (sidedTable ls ss)) (replicate (24 - length ls) blankInput) (n ∙ sym (length-replicate (24 - length ls) blankInput))
+      λ i h. getD-drop (length ls) (sidedTable ls ss) i blankInput
       ∙ table-past ss es m (length ls + i) c w (omega arith) (omega arith)
       ∙ sym (getD-replicate (24 - length ls) i blankInput blankInput (omega arith))
 
   pub table-literals : (ss : List Symbol) → map (λ i. i .literal) (take (length ls) (sidedTable ls ss)) ≡ ls
   table-literals ss =
-    let n : length (take (length ls) (sidedTable ls ss)) ≡ length ls = length-take-le (length ls) (sidedTable ls ss) (rw table-length few) in
-    ext-getD blankLiteral (map (λ i. i .literal) (take (length ls) (sidedTable ls ss))) ls (length-map (take (length ls) (sidedTable ls ss)) (λ i. i .literal) ∙ n)
-    λ i h.
+      let n : length (take (length ls) (sidedTable ls ss)) ≡ length ls = length-take-le (length ls) (sidedTable ls ss) (rw table-length few) in
+      ext-getD blankLiteral (map (λ i. i .literal) (take (length ls) (sidedTable ls ss))) ls (length-map (take (length ls) (sidedTable ls ss)) (λ i. i .literal) ∙ n)
+      λ i h.
       let k : i < length ls = omega (arith, n, length-map (take (length ls) (sidedTable ls ss)) (λ (x : Input). x .literal)) in
       let k′ : i < length (take (length ls) (sidedTable ls ss)) = rw n k in
       getD-map (λ (x : Input). x .literal) (take (length ls) (sidedTable ls ss)) i blankInput blankLiteral k′
@@ -181,24 +181,24 @@ module _ (ls : List Literal) (few : length ls ≤ 24) where
 
 -- inputs are the same where their literals and sides are, and the places past them are blank
 pub inputs-same : (n : ℕ) (xs ys : List Input) → n ≤ length xs → length xs ≡ length ys
-  → map (λ i. i .literal) (take n xs) ≡ map (λ i. i .literal) (take n ys)
-  → ((j : ℕ) → j < n → answers? (getD xs j blankInput .side) ≡ answers? (getD ys j blankInput .side))
-  → drop n xs ≡ drop n ys → xs ≡ ys
+    → map (λ i. i .literal) (take n xs) ≡ map (λ i. i .literal) (take n ys)
+    → ((j : ℕ) → j < n → answers? (getD xs j blankInput .side) ≡ answers? (getD ys j blankInput .side))
+    → drop n xs ≡ drop n ys → xs ≡ ys
 inputs-same n xs ys h len lits sides rest =
     let nx : length (take n xs) ≡ n = length-take-le n xs h in
     let ny : length (take n ys) ≡ n = length-take-le n ys (omega arith) in
     let front : take n xs ≡ take n ys =
-        ext-getD blankInput (take n xs) (take n ys) (nx ∙ sym ny)
-        λ i k.
-          let i< : i < n = omega arith in
-          let ix : i < length (take n xs) = k in
-          let iy : i < length (take n ys) = rw ny i< in
-          let gx = getD-take n xs i blankInput i< in
-          let gy = getD-take n ys i blankInput i< in
-          input-same (getD (take n xs) i blankInput) (getD (take n ys) i blankInput)
-          (sym (getD-map (λ (x : Input). x .literal) (take n xs) i blankInput blankLiteral ix) ∙ ap (λ l. getD l i blankLiteral) lits
-           ∙ getD-map (λ (x : Input). x .literal) (take n ys) i blankInput blankLiteral iy)
-          (ap (λ x. answers? (x .side)) gx ∙ sides i i< ∙ sym (ap (λ x. answers? (x .side)) gy)) in
+    ext-getD blankInput (take n xs) (take n ys) (nx ∙ sym ny)
+    λ i k.
+    let i< : i < n = omega arith in
+    let ix : i < length (take n xs) = k in
+    let iy : i < length (take n ys) = rw ny i< in
+    let gx = getD-take n xs i blankInput i< in
+    let gy = getD-take n ys i blankInput i< in
+    input-same (getD (take n xs) i blankInput) (getD (take n ys) i blankInput)
+    (sym (getD-map (λ (x : Input). x .literal) (take n xs) i blankInput blankLiteral ix) ∙ ap (λ l. getD l i blankLiteral) lits
+    ∙ getD-map (λ (x : Input). x .literal) (take n ys) i blankInput blankLiteral iy)
+    (ap (λ x. answers? (x .side)) gx ∙ sides i i< ∙ sym (ap (λ x. answers? (x .side)) gy)) in
     sym (take-append-drop n xs) ∙ ap (λ f. f ++ drop n xs) front ∙ ap (λ d. take n ys ++ d) rest ∙ take-append-drop n ys
 
 pub lists-same : {X : Type 0} (n : ℕ) (xs ys : List X) → take n xs ≡ take n ys → drop n xs ≡ drop n ys → xs ≡ ys

@@ -50,50 +50,50 @@ pub record Lines {X : Type 0} {content : X → Content} {put : X → State → S
 
 module _ {X : Type 0} {content : X → Content} {put : X → State → State} {ok : X → State → Bool} (s : Section content put ok) where
   pub section-forward : (xs : List X) (at : ℕ) (st : State) (ds : List Content) → s .In st → s .left st ≡ length xs → allOk put ok xs st ≡ true
-    → andThen (s .leave st) (λ u. folded at (map content xs ++ ds) u) ≡ andThen (s .leave (puts put xs st)) (λ u. folded (at + length xs) ds u)
+      → andThen (s .leave st) (λ u. folded at (map content xs ++ ds) u) ≡ andThen (s .leave (puts put xs st)) (λ u. folded (at + length xs) ds u)
   section-forward [] at st ds i n f = ap (λ k. andThen (s .leave st) (λ u. folded k ds u)) (sym (add-zero at))
   section-forward (x ∷ xs) at st ds i n f =
-    let some : 0 < s .left st = omega arith in
-    let p = and-parts (ok x st) (allOk put ok xs (put x st)) f in
-    let c = s .counts x st i some in
-    let len : s .left (put x st) ≡ length xs = omega arith in
-    ap (λ r. andThen r (λ u. folded at (content x ∷ (map content xs ++ ds)) u)) (s .stays st i some)
-    ∙ ap (λ r. andThen r (λ u. folded (at + 1) (map content xs ++ ds) u)) (s .forward at x st i some (p .0))
-    ∙ section-forward xs (at + 1) (put x st) ds (s .keeps x st i some) len (p .1)
-    ∙ ap (λ k. andThen (s .leave (puts put xs (put x st))) (λ u. folded k ds u)) (let e : at + 1 + length xs ≡ at + suc (length xs) = omega arith in e)
+      let some : 0 < s .left st = omega arith in
+      let p = and-parts (ok x st) (allOk put ok xs (put x st)) f in
+      let c = s .counts x st i some in
+      let len : s .left (put x st) ≡ length xs = omega arith in
+      ap (λ r. andThen r (λ u. folded at (content x ∷ (map content xs ++ ds)) u)) (s .stays st i some)
+      ∙ ap (λ r. andThen r (λ u. folded (at + 1) (map content xs ++ ds) u)) (s .forward at x st i some (p .0))
+      ∙ section-forward xs (at + 1) (put x st) ds (s .keeps x st i some) len (p .1)
+      ∙ ap (λ k. andThen (s .leave (puts put xs (put x st))) (λ u. folded k ds u)) (let e : at + 1 + length xs ≡ at + suc (length xs) = omega arith in e)
 
   section-line : (n at : ℕ) (st : State) (cs : List Content) (t : State) → s .In st → s .left st ≡ suc n
-    → ((at : ℕ) (st : State) (cs : List Content) → s .In st → s .left st ≡ n → andThen (s .leave st) (λ u. folded at cs u) ≡ Ok t → Lines s n at st cs t)
-    → folded at cs st ≡ Ok t → Lines s (suc n) at st cs t
+      → ((at : ℕ) (st : State) (cs : List Content) → s .In st → s .left st ≡ n → andThen (s .leave st) (λ u. folded at cs u) ≡ Ok t → Lines s n at st cs t)
+      → folded at cs st ≡ Ok t → Lines s (suc n) at st cs t
   section-line n at st [] t i m more e = absurd (s .open-ended at st t i (omega arith) e)
   section-line n at st (c ∷ cs) t i m more e =
-    let some : 0 < s .left st = omega arith in
-    let a = then-took (advance at c st) (λ u. folded (at + 1) cs u) t e in
-    let b = s .backward at c st (a .0) i some (a .1) in
-    let x = b .0 in
-    let k = s .counts x st i some in
-    let on : andThen (s .leave (put x st)) (λ u. folded (at + 1) cs u) ≡ Ok t = ap (λ r. andThen r (λ u. folded (at + 1) cs u)) (b .3) ∙ a .2 in
-    let l = more (at + 1) (put x st) cs (s .keeps x st i some) (omega arith) on in
-    record {
-      things = x ∷ l .things;
-      rest = l .rest;
-      is = ap (λ d. d ∷ cs) (b .1) ∙ ap (λ r. content x ∷ r) (l .is);
-      many = ap suc (l .many);
-      fine = and-from (ok x st) (allOk put ok (l .things) (put x st)) (b .2) (l .fine);
-      others = subst (λ j. andThen (s .leave (puts put (l .things) (put x st))) (λ u. folded j (l .rest) u) ≡ Ok t) (let e : at + 1 + n ≡ at + suc n = omega arith in e) (l .others);
-    }
+      let some : 0 < s .left st = omega arith in
+      let a = then-took (advance at c st) (λ u. folded (at + 1) cs u) t e in
+      let b = s .backward at c st (a .0) i some (a .1) in
+      let x = b .0 in
+      let k = s .counts x st i some in
+      let on : andThen (s .leave (put x st)) (λ u. folded (at + 1) cs u) ≡ Ok t = ap (λ r. andThen r (λ u. folded (at + 1) cs u)) (b .3) ∙ a .2 in
+      let l = more (at + 1) (put x st) cs (s .keeps x st i some) (omega arith) on in
+      record {
+        things = x ∷ l .things;
+        rest = l .rest;
+        is = ap (λ d. d ∷ cs) (b .1) ∙ ap (λ r. content x ∷ r) (l .is);
+        many = ap suc (l .many);
+        fine = and-from (ok x st) (allOk put ok (l .things) (put x st)) (b .2) (l .fine);
+        others = subst (λ j. andThen (s .leave (puts put (l .things) (put x st))) (λ u. folded j (l .rest) u) ≡ Ok t) (let e : at + 1 + n ≡ at + suc n = omega arith in e) (l .others);
+      }
 
   pub section-backward : (n at : ℕ) (st : State) (cs : List Content) (t : State) → s .In st → s .left st ≡ n
-    → andThen (s .leave st) (λ u. folded at cs u) ≡ Ok t → Lines s n at st cs t
+      → andThen (s .leave st) (λ u. folded at cs u) ≡ Ok t → Lines s n at st cs t
   section-backward zero at st cs t i m e =
-    record {
-      things = [];
-      rest = cs;
-      is = refl;
-      many = refl;
-      fine = refl;
-      others = subst (λ j. andThen (s .leave st) (λ u. folded j cs u) ≡ Ok t) (sym (add-zero at)) e;
-    }
+      record {
+        things = [];
+        rest = cs;
+        is = refl;
+        many = refl;
+        fine = refl;
+        others = subst (λ j. andThen (s .leave st) (λ u. folded j cs u) ≡ Ok t) (sym (add-zero at)) e;
+      }
   section-backward (suc n) at st cs t i m e =
-    section-line n at st cs t i m (λ at st cs i m e. section-backward n at st cs t i m e)
-    (sym (ap (λ r. andThen r (λ u. folded at cs u)) (s .stays st i (omega arith))) ∙ e)
+      section-line n at st cs t i m (λ at st cs i m e. section-backward n at st cs t i m e)
+      (sym (ap (λ r. andThen r (λ u. folded at cs u)) (s .stays st i (omega arith))) ∙ e)

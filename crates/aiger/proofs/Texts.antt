@@ -129,7 +129,7 @@ say-three a b c h k l =
     record {
       proper = (h, k, l);
       within = without-append 10 (decimal a) (32 ∷ (decimal b ++ 32 ∷ decimal c)) (decimal-within a h)
-        (without-append 10 (decimal b) (32 ∷ decimal c) (decimal-within b k) (decimal-within c l));
+          (without-append 10 (decimal b) (32 ∷ decimal c) (decimal-within b k) (decimal-within c l));
     }
 
 pub say-symbol : (k : SymbolKind) (p : ℕ) (name : List ℕ) → p ≤ 65535 → 0 < length name → without 10 name ≡ true → Sayable (symbol k p name)

@@ -16,6 +16,8 @@ use Rattle.circuit.specs.Sound.{sound}
 use Rattle.text.specs.Number.{decimal}
 use Rattle.text.specs.Cut.{without}
 use Rattle.aiger.specs.Advance.{controllable}
+use Rattle.std.specs.declared.result.Result.the-variants.{Ok}
+use Rattle.aiger.specs.Read.{Answered, answered}
 use Rattle.aiger.specs.Line.{Content, one, two, three, symbol, texts, headerText}
 use Rattle.aiger.specs.declared.line.Header.{Header}
 use Rattle.aiger.specs.declared.line.SymbolKind.{SymbolKind}
@@ -25,7 +27,11 @@ use lib.Chars.{codes}
 -- the header and the lines that a model's body is
 abbrev pub headerFor : Record → Header
 headerFor r = record {
-  maximum = r .maximum; inputs = r .«input_count»; latches = r .«latch_count»; outputs = 1; gates = r .«gate_count»
+  maximum = r .maximum;
+  inputs = r .«input_count»;
+  latches = r .«latch_count»;
+  outputs = 1;
+  gates = r .«gate_count»;
 }
 
 abbrev pub inputLine : Literal → Content
@@ -115,6 +121,11 @@ pub record Accepts (bs : List ℕ) (r : Record) (gs : List Gate) : Type 0 where
   pub short : length bs ≤ 65536
   pub file : FileOf bs r gs
   pub model : sound r gs ≡ true
+
+-- a read accepts a file with a model exactly when it is a file of that model
+pub record ReadLaw (bs : List ℕ) (n : ℕ) (a : Answered) : Type 0 where
+  pub accepted : a .result ≡ Ok tt → Accepts bs (a .model) (a .gates)
+  pub only : (r : Record) (gs : List Gate) → Accepts bs r gs → length gs ≡ n → a ≡ answered (Ok tt) r gs
 
 -- the written form: the body, and a symbol for each answer input, from position `at` on
 abbrev pub answerSymbols : ℕ → List Input → List Symbol

@@ -1,10 +1,13 @@
 // Reading a whole file.
 
 ghost use mathlib.Core.Path.{_≡_};
+ghost use mathlib.Core.Bool.{true};
 ghost use Prim.Native.Nat.{_≤_};
 ghost use lib.ListN.{length, replicate};
 ghost use Rattle.std.specs.Vec.{made};
 ghost use Rattle.circuit.specs.Parts.{blankGate};
+ghost use Rattle.circuit.specs.Sound.{sound};
+ghost use Rattle.aiger.specs.Format.{ReadLaw};
 ghost use Rattle.aiger.specs.Line.{contentOf, malformed};
 ghost use Rattle.aiger.specs.Advance.{both, stateOf, Fits, Bounds, modelOf};
 ghost use Rattle.aiger.specs.Read.{folded, linesOf, sizedOf, filled, fillOf, answered, readOf};
@@ -24,9 +27,12 @@ use text::cut;
 
 pub const MAX_FILE: usize = 65536;
 
-// Reads a model from a file's bytes into a record and a gate table. A refusal leaves both all zeros.
+// Reads a model from a file's bytes into a record and a gate table. A refusal leaves both all zeros. What is accepted can be
+// joined to a model.
 pub fn read(file: &[u8], gates: &mut [Gate], record: &mut Record) -> Result<(), ReadFault>
     ensures value { λ r. ⌜ answered r (now («record» .exit)) (now (gates .exit)) ≡ readOf (now (file .entry)) (length (now (gates .entry))) ⌝ }
+    ensures law { λ r. ⌜ ReadLaw (now (file .entry)) (length (now (gates .entry))) (answered r (now («record» .exit)) (now (gates .exit))) ⌝ }
+    ensures model { λ r. ⌜ made r (λ _. sound (now («record» .exit)) (now (gates .exit)) ≡ true) ⌝ }
 {
     match fill(file, gates, record) {
         Ok(()) => Ok(()),
