@@ -27,11 +27,12 @@ use Rattle.aiger.specs.declared.line.SymbolKind.the-variants as kind
 use Rattle.aiger.specs.Advance.{controllable}
 use Rattle.aiger.specs.Read.{answered, readOf}
 use Rattle.aiger.specs.Line.{one, texts, headerText}
-use Rattle.aiger.specs.Format.{Symbol, headerFor, inputLine, latchLine, gateLine, inputLiterals, bodyLines, body, symbolTexts, countOf, namedBy, wellNamed, namesAnswer, Tail, FileOf, Accepts, answerSymbols, written, resized}
+use Rattle.aiger.specs.Format.{Symbol, headerFor, inputLine, latchLine, gateLine, inputLiterals, bodyLines, body, symbolTexts, countOf, namedBy, wellNamed, namesAnswer, Tail, FileOf, Accepts, answerSymbols, written, resized, RoundTrip}
 use Rattle.aiger.proofs.Acceptance.{Ordered, bodyFor, ordered-of, sound-from}
 use Rattle.aiger.proofs.Bodies.{Body}
 use Rattle.aiger.proofs.Laws.{read-only}
 use Rattle.aiger.proofs.Records.{Blanks, blanks-of}
+use Rattle.aiger.proofs.Writing.{written-short}
 
 -- the symbols of the answer inputs
 abbrev answerName : ℕ → List ℕ
@@ -170,3 +171,6 @@ read-written n r gs s short room =
       model = resized-sound n r gs p room;
     })
     (resized-length n r gs p room)
+
+pub round-trip : (r : Record) (gs : List Gate) → sound r gs ≡ true → RoundTrip r gs
+round-trip r gs s n room = read-written n r gs s (written-short r gs s) room

@@ -6,7 +6,7 @@ ghost use mathlib.Core.List.{[], _∷_, _++_, map};
 ghost use lib.ListN.{length, drop};
 ghost use Rattle.text.specs.Number.{decimal};
 ghost use Rattle.aiger.specs.Line.{texts, headerText};
-ghost use Rattle.aiger.specs.Format.{headerFor, inputLine, latchLine, gateLine, symbolTexts, answerSymbols, written};
+ghost use Rattle.aiger.specs.Format.{headerFor, inputLine, latchLine, gateLine, symbolTexts, answerSymbols, written, RoundTrip};
 ghost use Rattle.aiger.specs.Writing.{put, answerLine, wrote, writeOf};
 use crate::fault::WriteFault;
 use crate::line::Header;
@@ -16,9 +16,11 @@ use circuit::Latch;
 use circuit::Model;
 use circuit::Side;
 
-// Writes the model's file to the front of the buffer, and returns its length. A refusal leaves the buffer as it was.
+// Writes the model's file to the front of the buffer, and returns its length. A refusal leaves the buffer as it was. What is
+// written is read again as the same model.
 pub fn write(model: &Model, buffer: &mut [u8]) -> Result<usize, WriteFault>
     ensures value { λ r. ⌜ wrote r (now (buffer .exit)) ≡ writeOf (written (now (now (model .entry) .«record»)) (now (now (model .entry) .gates))) (now (buffer .entry)) ⌝ }
+    ensures law { λ _. ⌜ RoundTrip (now (now (model .entry) .«record»)) (now (now (model .entry) .gates)) ⌝ }
 {
     let needed = emit(model, &mut []);
     if needed > buffer.len() {
