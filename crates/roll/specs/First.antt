@@ -1,11 +1,16 @@
 -- The first element of a list that passes a test.
-use Prim.Native.Nat.{ℕ, suc, _<_}
+use Prim.Native.Nat.{ℕ, _<_}
 use mathlib.Core.Path.{_≡_}
 use mathlib.Core.List.{List, [], _∷_}
-use mathlib.Core.Bool.{Bool, true, false, cond}
+use mathlib.Core.Bool.{Bool, true, false, _||_}
 use lib.ListN.{length, getD}
 use Rattle.std.specs.declared.option.Option.{Option}
 use Rattle.std.specs.declared.option.Option.the-variants.{Some, None}
+
+-- some element passes
+abbrev pub anyPasses : {X : Type 0} → (X → Bool) → List X → Bool
+anyPasses test [] = false
+anyPasses test (x ∷ xs) = test x || anyPasses test xs
 
 -- the element at a place passes, and none before it does
 pub record FirstAt {X : Type 0} (test : X → Bool) (xs : List X) (place : ℕ) : Type 0 where

@@ -1,0 +1,3 @@
+pub mod Covered
+pub mod Exactness
+pub mod Lasting

@@ -1,0 +1,4 @@
+pub mod Game
+pub mod Laws
+pub mod Rows
+pub mod Runs

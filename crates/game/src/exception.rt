@@ -1,0 +1,41 @@
+// An exception: pairs of state and event that need no more looking at.
+
+ghost use mathlib.Core.Path.{_≡_};
+ghost use Rattle.game.specs.Rows.{exceptionCovers};
+use roll::Covering;
+
+// A state and an event raised in it.
+#[derive(Clone, Copy, PartialEq, Eq, Debug)]
+pub struct Pair {
+    pub state: u32,
+    pub event: u32,
+}
+
+// It covers the pairs whose state and event agree with the values on the cares; no value has a bit outside its care.
+#[derive(Clone, Copy, PartialEq, Eq, Debug)]
+pub struct Exception {
+    pub state_care: u32,
+    pub state_value: u32,
+    pub event_care: u32,
+    pub event_value: u32,
+}
+
+impl Exception {
+    pub const BLANK: Exception = Exception {
+        state_care: 0,
+        state_value: 0,
+        event_care: 0,
+        event_value: 0,
+    };
+}
+
+pub impl Covering for Exception as ExceptionCovering {
+    type Point = Pair;
+
+    ghost covering = { λ x p. exceptionCovers x (p .state) (p .event) };
+
+    fn covers(&self, point: &Pair) -> bool {
+        point.state & self.state_care == self.state_value
+            && point.event & self.event_care == self.event_value
+    }
+}

@@ -1,0 +1,14 @@
+// The host as a game against its plug-ins: which states rows cover, and what follows for how long the host lasts.
+
+pub mod covers;
+pub mod exception;
+pub mod laws;
+pub mod row;
+
+pub use covers::is_covered;
+pub use covers::is_excepted;
+pub use exception::Exception;
+pub use exception::ExceptionCovering;
+pub use exception::Pair;
+pub use row::Row;
+pub use row::RowCovering;
