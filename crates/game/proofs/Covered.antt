@@ -7,7 +7,7 @@ use mathlib.Core.Bool.{Bool, true, false, not, _||_, _&&_, cond}
 use native.Mathlib.Omega.{arith}
 use lib.ListN.{length, take, getD}
 use lib.Seq.{take-suc}
-use Rattle.std.proofs.shelf.Tests.{both-ways, cases-bool, and-cases, and-from, and-left, and-right, or-cases, or-parts, not-from-true, not-from-false, not-true, not-false, and-parts}
+use Rattle.std.proofs.shelf.Tests.{both-ways, cases-bool, and-cases, and-from, and-left, and-right, or-cases, or-parts, or-left, or-right, not-from-true, not-from-false, not-true, not-false, and-parts}
 use Rattle.std.proofs.shelf.Lists.{take-append-drop}
 use Rattle.roll.proofs.First.{any-at, any-append, first-of}
 use Rattle.roll.specs.First.{FirstAt}
@@ -81,3 +81,10 @@ pub not-good : (g : Arena) (rs : List Row) (s e a : ℕ) → good g rs s e a ≡
     → (g .bad s e a ≡ true) ⊎ (covered rs (g .next s e a) ≡ true)
 not-good g rs s e a h =
     elim (and-cases (not (g .bad s e a)) (not (covered rs (g .next s e a))) h) [ inl p ↦ inl (not-false _ p) | inr q ↦ inr (not-false _ q) ]
+
+pub justified-kept : (g : Arena) (before earlier after : List Row) (r : Row) → Justified g earlier r
+    → Justified g (before ++ (earlier ++ after)) r
+justified-kept g before earlier after r =
+    justified-more g earlier (before ++ (earlier ++ after)) r
+    (λ s c. covered-++ before (earlier ++ after) s
+    ∙ or-right (covered before s) _ (covered-++ earlier after s ∙ or-left (covered earlier s) _ c))

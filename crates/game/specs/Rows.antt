@@ -128,3 +128,9 @@ abbrev pub ExceptionDue : Arena → List Row → List Exception → Type 0
 ExceptionDue g rs xs =
     (s : ℕ) × (e : ℕ) × (a : ℕ) × (b : ℕ) × (s < g .states) × (e < g .events) × (a < g .answers) × (b < g .answers)
     × (covered rs s ≡ false) × (excepted xs s e ≡ false) × (good g rs s e a ≡ false) × (good g rs s e b ≡ true)
+
+-- at an uncovered state, outside every exception, every answer is good
+abbrev pub AllGood : Arena → List Row → List Exception → Type 0
+AllGood g rs xs =
+    (s e a : ℕ) → s < g .states → e < g .events → a < g .answers → covered rs s ≡ false → excepted xs s e ≡ false
+    → good g rs s e a ≡ true

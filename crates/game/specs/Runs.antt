@@ -54,16 +54,19 @@ pub record GivenUp (g : Arena) (rowPlaces : ℕ) (rs : List Row) : Type 0 where
   pub before : covered (take (length rs - 1) rs) 0 ≡ false
   pub forced : Forced g rs 0
 
+-- a row is due, and every row place is used
 pub record RowsFull (g : Arena) (places : ℕ) (rs : List Row) : Type 0 where
   pub rows : GoodRows g rs
   pub full : length rs ≡ places
   pub due : RowDue g rs
   pub resetOpen : covered rs 0 ≡ false
 
-pub record ExceptionsFull (g : Arena) (places : ℕ) (rs : List Row) : Type 0 where
+-- an exception is due, and every exception place is used
+pub record ExceptionsFull (g : Arena) (rowPlaces exceptionPlaces : ℕ) (rs : List Row) : Type 0 where
   pub rows : GoodRows g rs
+  pub within : length rs ≤ rowPlaces
   pub exceptions : List Exception
   pub good : GoodExceptions g rs exceptions
-  pub full : length exceptions ≡ places
+  pub full : length exceptions ≡ exceptionPlaces
   pub due : ExceptionDue g rs exceptions
   pub resetOpen : covered rs 0 ≡ false

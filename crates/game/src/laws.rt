@@ -1,6 +1,6 @@
 // The laws of the game: each is promised by a call that does nothing else.
 
-ghost use Rattle.game.specs.Laws.{LastingFalls, SafeOrLost, RowsForce, RestSafe, RowsExact, OneCover};
+ghost use Rattle.game.specs.Laws.{LastingFalls, SafeOrLost, RowsForce, RestSafe, RowsExact, OneCover, PlayForced, JustifiedKept, HarmlessLoop, ExactAnswered, Dues, KeptRun, LostRun};
 
 pub fn lasting_falls()
     ensures { λ _. ⌜ LastingFalls ⌝ }
@@ -24,4 +24,32 @@ pub fn rows_exact()
 
 pub fn one_cover()
     ensures { λ _. ⌜ OneCover ⌝ }
+{}
+
+pub fn play_forced()
+    ensures { λ _. ⌜ PlayForced ⌝ }
+{}
+
+pub fn justified_kept()
+    ensures { λ _. ⌜ JustifiedKept ⌝ }
+{}
+
+pub fn harmless_loop()
+    ensures { λ _. ⌜ HarmlessLoop ⌝ }
+{}
+
+pub fn exact_answered()
+    ensures { λ _. ⌜ ExactAnswered ⌝ }
+{}
+
+pub fn dues()
+    ensures { λ _. ⌜ Dues ⌝ }
+{}
+
+pub fn kept_run()
+    ensures { λ _. ⌜ KeptRun ⌝ }
+{}
+
+pub fn lost_run()
+    ensures { λ _. ⌜ LostRun ⌝ }
 {}

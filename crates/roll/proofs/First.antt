@@ -5,7 +5,8 @@ use mathlib.Core.Logic.{_⊎_, inl, inr}
 use mathlib.Core.List.{List, [], _∷_, _++_}
 use mathlib.Core.Bool.{Bool, true, false, _||_}
 use native.Mathlib.Omega.{arith}
-use lib.ListN.{length, getD}
+use lib.ListN.{length, getD, take}
+use Rattle.std.proofs.shelf.Lists.{getD-take, length-take}
 use Rattle.std.proofs.shelf.Tests.{both-ways, cases-bool, cases-order, or-cases, or-parts, or-from, or-left, or-right}
 use Rattle.std.specs.Options.{isSome}
 use Rattle.std.specs.declared.option.Option.{Option}
@@ -69,3 +70,15 @@ module _ {X : Type 0} (test : X → Bool) where
   any-append [] ys = refl
   any-append (x ∷ xs) ys =
       elim (test x) as (λ b. (b || anyPasses test (xs ++ ys)) ≡ ((b || anyPasses test xs) || anyPasses test ys)) [ true ↦ refl | false ↦ any-append xs ys ]
+
+  -- the first that passes among the first n is the first of all
+  pub first-take : (xs : List X) (n i : ℕ) → FirstAt test (take n xs) i → (i < n) × FirstAt test xs i
+  first-take xs n i f =
+      let l : i < n = omega (arith, f .within, length-take n xs) in (
+        l,
+        record {
+          within = omega (arith, f .within, length-take n xs);
+          passes = λ d. sym (ap test (getD-take n xs i d l)) ∙ f .passes d;
+          before = λ j d k. (let m : j < n = omega arith in sym (ap test (getD-take n xs j d m)) ∙ f .before j d k);
+        },
+      )
