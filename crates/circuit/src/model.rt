@@ -9,8 +9,8 @@ use crate::record::Record;
 
 #[derive(Clone, Copy)]
 pub struct Model<'a> {
-    record: &'a Record,
-    gates: &'a [Gate],
+    pub(crate) record: &'a Record,
+    pub(crate) gates: &'a [Gate],
     ghost fit: { sound (pointee «record») (pointee gates) ≡ true },
 }
 
