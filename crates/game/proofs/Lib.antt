@@ -1,4 +1,5 @@
 pub mod Answers
+pub mod Bits
 pub mod Covered
 pub mod Dues
 pub mod Exactness

@@ -1,3 +1,4 @@
+pub mod Bits
 pub mod Game
 pub mod Laws
 pub mod Rows

@@ -6,6 +6,7 @@ use mathlib.Core.Bool.{Bool, true, false, not, _&&_}
 use lib.Bits.{bitAnd}
 use lib.Dec.{eqb}
 use lib.ListN.{length, take, getD}
+use Rattle.circuit.specs.Step.{bit}
 use Rattle.roll.specs.First.{anyPasses}
 use Rattle.game.specs.Game.{Arena}
 use Rattle.game.specs.declared.row.Row.{Row}
@@ -41,10 +42,7 @@ abbrev pub Answered : Arena → List Row → Type 0
 Answered g rs =
     (s e : ℕ) → s < g .states → e < g .events → covered rs s ≡ false → (a : ℕ) × (a < g .answers) × (good g rs s e a ≡ true)
 
--- one bit of a mask, and a number without it
-abbrev pub hasBit : ℕ → ℕ → Bool
-hasBit n j = eqb (n / 2 ^ j % 2) 1
-
+-- a number without one of its bits
 abbrev pub lessBit : ℕ → ℕ → ℕ
 lessBit n j = n - (n / 2 ^ j % 2) * 2 ^ j
 
@@ -53,7 +51,7 @@ abbrev pub wider : Row → ℕ → Row
 wider r j = record { care = lessBit (r .care) j; value = lessBit (r .value) j; event = r .event }
 
 abbrev pub Tight : Arena → List Row → Row → Type 0
-Tight g earlier r = (j : ℕ) → hasBit (r .care) j ≡ true → Justified g earlier (wider r j) → ⊥
+Tight g earlier r = (j : ℕ) → bit (r .care) j ≡ true → Justified g earlier (wider r j) → ⊥
 
 -- the row covers a state that no earlier row covers
 abbrev pub New : Arena → List Row → Row → Type 0
@@ -111,8 +109,8 @@ pub record GoodException (g : Arena) (rs : List Row) (earlier : List Exception) 
   pub answer : ℕ
   pub answerInRange : answer < g .answers
   pub serves : Serves g rs earlier x answer
-  pub tightState : (j : ℕ) → hasBit (x .«state_care») j ≡ true → Serves g rs earlier (widerState x j) answer → ⊥
-  pub tightEvent : (j : ℕ) → hasBit (x .«event_care») j ≡ true → Serves g rs earlier (widerEvent x j) answer → ⊥
+  pub tightState : (j : ℕ) → bit (x .«state_care») j ≡ true → Serves g rs earlier (widerState x j) answer → ⊥
+  pub tightEvent : (j : ℕ) → bit (x .«event_care») j ≡ true → Serves g rs earlier (widerEvent x j) answer → ⊥
   pub new : (s : ℕ) × (e : ℕ) × (s < g .states) × (e < g .events) × (exceptionCovers x s e ≡ true) × (covered rs s ≡ false) × (excepted earlier s e ≡ false)
 
 abbrev pub GoodExceptions : Arena → List Row → List Exception → Type 0

@@ -1,5 +1,6 @@
 // The laws of the game: each is promised by a call that does nothing else.
 
+ghost use Rattle.game.specs.Bits.{AgreesByBits, LessByBits};
 ghost use Rattle.game.specs.Laws.{LastingFalls, SafeOrLost, RowsForce, RestSafe, RowsExact, OneCover, PlayForced, JustifiedKept, HarmlessLoop, ExactAnswered, Dues, KeptRun, LostRun};
 
 pub fn lasting_falls()
@@ -52,4 +53,12 @@ pub fn kept_run()
 
 pub fn lost_run()
     ensures { λ _. ⌜ LostRun ⌝ }
+{}
+
+pub fn agrees_by_bits()
+    ensures { λ _. ⌜ AgreesByBits ⌝ }
+{}
+
+pub fn less_by_bits()
+    ensures { λ _. ⌜ LessByBits ⌝ }
 {}

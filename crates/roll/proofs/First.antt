@@ -6,6 +6,7 @@ use mathlib.Core.List.{List, [], _∷_, _++_}
 use mathlib.Core.Bool.{Bool, true, false, _||_}
 use native.Mathlib.Omega.{arith}
 use lib.ListN.{length, getD, take}
+use Rattle.std.proofs.shelf.Elements.{at-read}
 use Rattle.std.proofs.shelf.Lists.{getD-take, length-take}
 use Rattle.std.proofs.shelf.Tests.{both-ways, cases-bool, cases-order, or-cases, or-parts, or-from, or-left, or-right}
 use Rattle.std.specs.Options.{isSome}
@@ -33,6 +34,12 @@ module _ {X : Type 0} (test : X → Bool) where
   pub only-first : (xs : List X) (r : Option ℕ) → First test xs r → OnlyFirst test xs r
   only-first xs None h = record { some = λ i f. absurd (not-both xs i f h); none = λ _. refl }
   only-first xs (Some j) h = record { some = λ i f. ap Some (same-place xs j i h f); none = λ n. absurd (not-both xs j h n) }
+
+  -- a search that read the element x at place i, and passed the places before it
+  pub first-found : (xs : List X) (i : ℕ) (x : X) → i < length xs → x ≡ getD xs i x → true ≡ test x
+      → ((j : ℕ) (d : X) → j < i → test (getD xs j d) ≡ false) → FirstAt test xs i
+  first-found xs i x l is e before =
+      record { within = l; passes = at-read xs (λ y. test y ≡ true) i x l is (sym e); before = before }
 
   pub any-at : (xs : List X) (i : ℕ) (d : X) → i < length xs → test (getD xs i d) ≡ true → anyPasses test xs ≡ true
   any-at [] i d l e = absurd (omega arith)
