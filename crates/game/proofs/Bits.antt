@@ -10,11 +10,13 @@ use lib.Bits.{bitAnd}
 use lib.Dec.{eqb}
 use Rattle.std.proofs.shelf.Bits.{and-shr, and-mod, shr-shr, div-add-mod', mul-le}
 use Rattle.std.proofs.shelf.Tests.{both-ways, cases-bool, eqb-true, eq-eqb, ne-eqb, cases-eq}
-use Rattle.std.proofs.shelf.Ways.{tells}
+use Rattle.std.proofs.shelf.Ways.{tells, decides-at, decides-and}
 use Rattle.std.specs.Orderings.{Decides}
 use Rattle.circuit.specs.Step.{bit}
-use Rattle.game.specs.Bits.{AgreesByBits, LessByBits}
-use Rattle.game.specs.Rows.{agrees, lessBit}
+use Rattle.game.specs.Bits.{AgreesByBits, LessByBits, RowBits, ExceptionBits}
+use Rattle.game.specs.Rows.{agrees, rowCovers, exceptionCovers, lessBit}
+use Rattle.game.specs.declared.exception.Exception.{Exception}
+use Rattle.game.specs.declared.row.Row.{Row}
 
 low-cases : (n : ℕ) → (n % 2 ≡ 0) ⊎ (n % 2 ≡ 1)
 low-cases n = elim (cases-eq (n % 2) 0) [ inl e ↦ inl e | inr d ↦ inr (omega (arith, d)) ]
@@ -132,3 +134,12 @@ less-inside care value j inside =
 
 pub less-by-bits : LessByBits
 less-by-bits = record { others = λ n j k. less-bits j n k; inside = less-inside }
+
+pub row-bits : (r : Row) (s : ℕ) (b : Bool) → b ≡ rowCovers r s → RowBits r s b
+row-bits r s b e inside = decides-at b (rowCovers r s) e (agrees-by-bits (r .care) (r .value) s inside)
+
+pub exception-bits : (x : Exception) (s e : ℕ) (b : Bool) → b ≡ exceptionCovers x s e → ExceptionBits x s e b
+exception-bits x s e b is inState inEvent =
+    decides-at b (exceptionCovers x s e) is
+    (decides-and _ _ (agrees-by-bits (x .«state_care») (x .«state_value») s inState)
+    (agrees-by-bits (x .«event_care») (x .«event_value») e inEvent))

@@ -3,7 +3,9 @@ pub mod Bits
 pub mod Covered
 pub mod Dues
 pub mod Exactness
+pub mod Judged
 pub mod Lasting
 pub mod Loops
+pub mod Models
 pub mod Play
 pub mod Runs

@@ -1,5 +1,7 @@
 pub mod Bits
 pub mod Game
+pub mod Judged
 pub mod Laws
+pub mod Models
 pub mod Rows
 pub mod Runs

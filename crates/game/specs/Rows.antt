@@ -12,6 +12,13 @@ use Rattle.game.specs.Game.{Arena}
 use Rattle.game.specs.declared.row.Row.{Row}
 use Rattle.game.specs.declared.exception.Exception.{Exception}
 
+-- the blank ones
+abbrev pub blankRow : Row
+blankRow = record { care = 0; value = 0; event = 0 }
+
+abbrev pub blankException : Exception
+blankException = record { «state_care» = 0; «state_value» = 0; «event_care» = 0; «event_value» = 0 }
+
 -- whether a number agrees with a value on the bits of a mask
 abbrev pub agrees : ℕ → ℕ → ℕ → Bool
 agrees care value n = eqb (bitAnd n care) value

@@ -1,7 +1,9 @@
 // An exception: pairs of state and event that need no more looking at.
 
 ghost use mathlib.Core.Path.{_≡_};
+ghost use Rattle.game.specs.Bits.{ExceptionBits};
 ghost use Rattle.game.specs.Rows.{exceptionCovers};
+use crate::mask::agrees_on;
 use roll::Covering;
 
 // A state and an event raised in it.
@@ -34,8 +36,11 @@ pub impl Covering for Exception as ExceptionCovering {
 
     ghost covering = { λ x p. exceptionCovers x (p .state) (p .event) };
 
-    fn covers(&self, point: &Pair) -> bool {
-        point.state & self.state_care == self.state_value
-            && point.event & self.event_care == self.event_value
+    fn covers(&self, point: &Pair) -> bool
+        ensures value { λ r. ⌜ r ≡ exceptionCovers (now (self .entry)) (now (point .entry) .state) (now (point .entry) .event) ⌝ }
+        ensures bits { λ r. ⌜ ExceptionBits (now (self .entry)) (now (point .entry) .state) (now (point .entry) .event) r ⌝ }
+    {
+        agrees_on(self.state_care, self.state_value, point.state)
+            && agrees_on(self.event_care, self.event_value, point.event)
     }
 }

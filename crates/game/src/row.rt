@@ -1,7 +1,9 @@
 // A row: states from which the host cannot keep its rules, and the event that shows it.
 
 ghost use mathlib.Core.Path.{_≡_};
+ghost use Rattle.game.specs.Bits.{RowBits};
 ghost use Rattle.game.specs.Rows.{rowCovers};
+use crate::mask::agrees_on;
 use roll::Covering;
 
 // It covers the states that agree with `value` on the latches of `care`; `value` has no bit outside `care`.
@@ -25,7 +27,10 @@ pub impl Covering for Row as RowCovering {
 
     ghost covering = { λ r s. rowCovers r s };
 
-    fn covers(&self, point: &u32) -> bool {
-        *point & self.care == self.value
+    fn covers(&self, point: &u32) -> bool
+        ensures value { λ r. ⌜ r ≡ rowCovers (now (self .entry)) (now (point .entry)) ⌝ }
+        ensures bits { λ r. ⌜ RowBits (now (self .entry)) (now (point .entry)) r ⌝ }
+    {
+        agrees_on(self.care, self.value, *point)
     }
 }

@@ -12,7 +12,7 @@ pub trait Covering {
     ghost covering: { Self → Self·Point → Bool };
 
     fn covers(&self, point: &Self::Point) -> bool
-        ensures { λ r. ⌜ r ≡ covering (now (self .entry)) (now (point .entry)) ⌝ };
+        ensures value { λ r. ⌜ r ≡ covering (now (self .entry)) (now (point .entry)) ⌝ };
 }
 
 // The place of the first element that covers the point.

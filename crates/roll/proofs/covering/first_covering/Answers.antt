@@ -9,7 +9,7 @@ pub returns-then-covers : need.returns-then-covers
 returns-then-covers g c =
     let f : FirstAt (λ x. g .C·Covering .covering x (c .args .point .now)) (c .args .items .now) (c .loop-place .place) =
     first-found (λ x. g .C·Covering .covering x (c .args .point .now)) (c .args .items .now) (c .loop-place .place)
-    (c .index-items-place .result) (omega arith) (c .index-items-place .is) (c .if-covers .ensures tt) (c .loop-place .inv) in
+    (c .index-items-place .result) (omega arith) (c .index-items-place .is) (c .if-covers .ensures tt .value) (c .loop-place .inv) in
     record { cases = f; only = only-first _ _ (Some (c .loop-place .place)) f }
 
 pub returns : need.returns
