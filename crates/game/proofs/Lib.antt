@@ -3,6 +3,7 @@ pub mod Bits
 pub mod Covered
 pub mod Dues
 pub mod Exactness
+pub mod Examples
 pub mod Judged
 pub mod Lasting
 pub mod Loops

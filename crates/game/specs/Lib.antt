@@ -1,4 +1,5 @@
 pub mod Bits
+pub mod Examples
 pub mod Game
 pub mod Judged
 pub mod Laws

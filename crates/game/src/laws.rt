@@ -1,6 +1,7 @@
 // The laws of the game: each is promised by a call that does nothing else.
 
 ghost use Rattle.game.specs.Bits.{AgreesByBits, LessByBits};
+ghost use Rattle.game.specs.Examples.{WorkedCases};
 ghost use Rattle.game.specs.Laws.{LastingFalls, SafeOrLost, RowsForce, RestSafe, RowsExact, OneCover, PlayForced, JustifiedKept, HarmlessLoop, ExactAnswered, Dues, KeptRun, LostRun};
 
 pub fn lasting_falls()
@@ -61,4 +62,8 @@ pub fn agrees_by_bits()
 
 pub fn less_by_bits()
     ensures { λ _. ⌜ LessByBits ⌝ }
+{}
+
+pub fn worked_cases()
+    ensures { λ _. ⌜ WorkedCases ⌝ }
 {}
