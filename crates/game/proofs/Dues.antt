@@ -10,7 +10,7 @@ use Rattle.std.proofs.shelf.Tests.{both-ways, cases-bool}
 use Rattle.roll.proofs.First.{first-of}
 use Rattle.roll.specs.First.{FirstAt}
 use Rattle.game.specs.Game.{Arena, some}
-use Rattle.game.specs.Rows.{covered, good, Answered, AllGood, exceptionCovers, excepted, GoodException, GoodExceptions, RowDue, ExceptionDue}
+use Rattle.game.specs.Rows.{covered, good, Answered, AllGood, exceptionCovers, excepted, Serves, GoodException, GoodExceptions, RowDue, ExceptionDue}
 use Rattle.game.specs.Laws.{DueLaw}
 use Rattle.game.specs.declared.exception.Exception.{Exception}
 use Rattle.game.specs.declared.row.Row.{Row}
@@ -29,20 +29,31 @@ module _ (g : Arena) (rs : List Row) where
         | inr f ↦ absurd (nothing (s, e, ls, le, c, none-at (g .answers) _ f))
       ]
 
-  module _ (xs : List Exception) (fine : GoodExceptions g rs xs) (one : 0 < g .answers) where
+  module _ (xs : List Exception) (fine : GoodExceptions g rs xs) where
     -- a pair in some exception has a good answer
-    excepted-answered : (s e : ℕ) → s < g .states → e < g .events → covered rs s ≡ false → excepted xs s e ≡ true
+    pub excepted-answered : (s e : ℕ) → s < g .states → e < g .events → covered rs s ≡ false → excepted xs s e ≡ true
         → (a : ℕ) × (a < g .answers) × (good g rs s e a ≡ true)
     excepted-answered s e ls le c x =
         let w = first-of (λ y. exceptionCovers y s e) xs x in
         let d = some-of xs (w .0) (w .1 .within) in
         fine (w .0) d (w .1 .within) .harmless s e ls le (w .1 .passes d) c
 
+    -- an exception that one answer serves is harmless
+    pub served-harmless : (x : Exception) (answer : ℕ) → answer < g .answers → Serves g rs xs x answer
+        → (s e : ℕ) → s < g .states → e < g .events → exceptionCovers x s e ≡ true → covered rs s ≡ false
+        → (a : ℕ) × (a < g .answers) × (good g rs s e a ≡ true)
+    served-harmless x answer la serves s e ls le k c =
+        elim (cases-bool (excepted xs s e)) [
+          | inl t ↦ excepted-answered s e ls le c t
+          | inr f ↦ (answer, la, serves s e ls le k c f)
+        ]
+
+  module _ (xs : List Exception) (fine : GoodExceptions g rs xs) (one : 0 < g .answers) where
     -- where every answer outside the exceptions is good, each pair of an uncovered state has one
     pub all-good-answered : AllGood g rs xs → Answered g rs
     all-good-answered all s e ls le c =
         elim (cases-bool (excepted xs s e)) [
-          | inl t ↦ excepted-answered s e ls le c t
+          | inl t ↦ excepted-answered xs fine s e ls le c t
           | inr f ↦ (0, one, all s e 0 ls le one c f)
         ]
 
@@ -73,3 +84,9 @@ module _ (g : Arena) (rs : List Row) where
 
 pub due-law : (g : Arena) (rs : List Row) (xs : List Exception) → 0 < g .answers → GoodExceptions g rs xs → DueLaw g rs xs
 due-law g rs xs one fine = dues g rs xs fine one
+
+pub served : (g : Arena) (rs : List Row) (earlier : List Exception) (x : Exception) (answer : ℕ) → GoodExceptions g rs earlier
+    → answer < g .answers → Serves g rs earlier x answer
+    → (s e : ℕ) → s < g .states → e < g .events → exceptionCovers x s e ≡ true → covered rs s ≡ false
+    → (a : ℕ) × (a < g .answers) × (good g rs s e a ≡ true)
+served g rs earlier x answer fine = served-harmless g rs earlier fine x answer

@@ -71,6 +71,13 @@ pub exact : (g : Arena) → InRange g → (rs : List Row) → JustifiedRows g rs
 exact g inRange rs justified answered z =
     record { safe = uncovered-safe g inRange rs answered; lost = covered-lost g inRange rs justified; reset = z }
 
+-- exact rows tell lost states from safe ones, both ways
+pub lost-covered : (g : Arena) (rs : List Row) → Exact g rs → (s : ℕ) → s < g .states → Lost g s → covered rs s ≡ true
+lost-covered g rs ex s ls lost = elim (cases-bool (covered rs s)) [ inl t ↦ t | inr f ↦ absurd (lost (ex .safe s ls f)) ]
+
+pub safe-uncovered : (g : Arena) (rs : List Row) → Exact g rs → (s : ℕ) → s < g .states → Safe g s → covered rs s ≡ false
+safe-uncovered g rs ex s ls safe = elim (cases-bool (covered rs s)) [ inl t ↦ absurd (ex .lost s ls t safe) | inr f ↦ f ]
+
 -- two exact lists cover the same states
 pub same-covered : (g : Arena) (xs ys : List Row) → Exact g xs → Exact g ys → (s : ℕ) → s < g .states → covered xs s ≡ covered ys s
 same-covered g xs ys ex ey s ls =
@@ -78,3 +85,9 @@ same-covered g xs ys ex ey s ls =
       | inl p ↦ p ∙ sym (elim (cases-bool (covered ys s)) [ inl q ↦ q | inr q ↦ absurd (ex .lost s ls p (ey .safe s ls q)) ])
       | inr p ↦ p ∙ sym (elim (cases-bool (covered ys s)) [ inl q ↦ absurd (ey .lost s ls q (ex .safe s ls p)) | inr q ↦ q ])
     ]
+
+-- so the same answers are good by both
+pub same-good : (g : Arena) → InRange g → (xs ys : List Row) → Exact g xs → Exact g ys
+    → (s e a : ℕ) → s < g .states → e < g .events → a < g .answers → good g xs s e a ≡ good g ys s e a
+same-good g inRange xs ys ex ey s e a ls le la =
+    ap (λ t. not (g .bad s e a) && not t) (same-covered g xs ys ex ey (g .next s e a) (inRange s e a ls le la))

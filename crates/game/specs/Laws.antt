@@ -5,7 +5,7 @@ use mathlib.Core.List.{List, [], _∷_, _++_}
 use mathlib.Core.Bool.{true, false}
 use lib.ListN.{length, getD}
 use Rattle.game.specs.Game.{Arena, InRange, lasts, Safe, Lost}
-use Rattle.game.specs.Rows.{rowCovers, covered, good, Justified, JustifiedRows, Answered, AllGood, GoodRows, GoodExceptions, RowDue, ExceptionDue}
+use Rattle.game.specs.Rows.{rowCovers, covered, good, Justified, JustifiedRows, Answered, AllGood, GoodRows, exceptionCovers, Serves, GoodExceptions, RowDue, ExceptionDue}
 use Rattle.game.specs.Runs.{Exact, Forced, Kept, GivenUp}
 use Rattle.game.specs.declared.exception.Exception.{Exception}
 use Rattle.game.specs.declared.row.Row.{Row}
@@ -76,6 +76,14 @@ pub record DueLaw (g : Arena) (rs : List Row) (xs : List Exception) : Type 0 whe
 
 abbrev pub Dues : Type 0
 Dues = (g : Arena) (rs : List Row) (xs : List Exception) → 0 < g .answers → GoodExceptions g rs xs → DueLaw g rs xs
+
+-- an exception that one answer serves is harmless where the earlier ones are
+abbrev pub ServedHarmless : Type 0
+ServedHarmless =
+    (g : Arena) (rs : List Row) (earlier : List Exception) (x : Exception) (answer : ℕ) → GoodExceptions g rs earlier
+    → answer < g .answers → Serves g rs earlier x answer
+    → (s e : ℕ) → s < g .states → e < g .events → exceptionCovers x s e ≡ true → covered rs s ≡ false
+    → (a : ℕ) × (a < g .answers) × (good g rs s e a ≡ true)
 
 -- rows and exceptions with which a run may end: nothing is left to do, or the newest row covers reset
 abbrev pub KeptRun : Type 0

@@ -57,6 +57,7 @@ lessBit n j = n - (n / 2 ^ j % 2) * 2 ^ j
 abbrev pub wider : Row → ℕ → Row
 wider r j = record { care = lessBit (r .care) j; value = lessBit (r .value) j; event = r .event }
 
+-- no bit of the care can be left out
 abbrev pub Tight : Arena → List Row → Row → Type 0
 Tight g earlier r = (j : ℕ) → bit (r .care) j ≡ true → Justified g earlier (wider r j) → ⊥
 
@@ -64,6 +65,7 @@ Tight g earlier r = (j : ℕ) → bit (r .care) j ≡ true → Justified g earli
 abbrev pub New : Arena → List Row → Row → Type 0
 New g earlier r = (s : ℕ) × (s < g .states) × (rowCovers r s ≡ true) × (covered earlier s ≡ false)
 
+-- a row that a run may add to the earlier ones
 pub record GoodRow (g : Arena) (earlier : List Row) (r : Row) : Type 0 where
   pub careInRange : r .care < g .states
   pub valueInCare : bitAnd (r .value) (r .care) ≡ r .value
@@ -89,6 +91,7 @@ Serves g rs earlier x a =
     (s e : ℕ) → s < g .states → e < g .events → exceptionCovers x s e ≡ true → covered rs s ≡ false
     → excepted earlier s e ≡ false → good g rs s e a ≡ true
 
+-- an exception without one bit of its state care, or of its event care, and without that bit of the value
 abbrev pub widerState : Exception → ℕ → Exception
 widerState x j = record {
   «state_care» = lessBit (x .«state_care») j;
@@ -105,6 +108,7 @@ widerEvent x j = record {
   «event_value» = lessBit (x .«event_value») j;
 }
 
+-- an exception that a run may add to the earlier ones
 pub record GoodException (g : Arena) (rs : List Row) (earlier : List Exception) (x : Exception) : Type 0 where
   pub stateCareInRange : x .«state_care» < g .states
   pub stateValueInCare : bitAnd (x .«state_value») (x .«state_care») ≡ x .«state_value»
@@ -113,6 +117,7 @@ pub record GoodException (g : Arena) (rs : List Row) (earlier : List Exception) 
   -- each pair that it covers has a covered state, or some good answer
   pub harmless : (s e : ℕ) → s < g .states → e < g .events → exceptionCovers x s e ≡ true → covered rs s ≡ false
       → (a : ℕ) × (a < g .answers) × (good g rs s e a ≡ true)
+  -- one answer serves, no bit of the cares can be left out for that answer, and some pair is new
   pub answer : ℕ
   pub answerInRange : answer < g .answers
   pub serves : Serves g rs earlier x answer
@@ -120,6 +125,7 @@ pub record GoodException (g : Arena) (rs : List Row) (earlier : List Exception) 
   pub tightEvent : (j : ℕ) → bit (x .«event_care») j ≡ true → Serves g rs earlier (widerEvent x j) answer → ⊥
   pub new : (s : ℕ) × (e : ℕ) × (s < g .states) × (e < g .events) × (exceptionCovers x s e ≡ true) × (covered rs s ≡ false) × (excepted earlier s e ≡ false)
 
+-- each exception is good by the exceptions before it
 abbrev pub GoodExceptions : Arena → List Row → List Exception → Type 0
 GoodExceptions g rs xs = (i : ℕ) (d : Exception) → i < length xs → GoodException g rs (take i xs) (getD xs i d)
 

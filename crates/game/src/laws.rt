@@ -2,7 +2,7 @@
 
 ghost use Rattle.game.specs.Bits.{AgreesByBits, LessByBits};
 ghost use Rattle.game.specs.Examples.{WorkedCases};
-ghost use Rattle.game.specs.Laws.{LastingFalls, SafeOrLost, RowsForce, RestSafe, RowsExact, OneCover, PlayForced, JustifiedKept, HarmlessLoop, ExactAnswered, Dues, KeptRun, LostRun};
+ghost use Rattle.game.specs.Laws.{LastingFalls, SafeOrLost, RowsForce, RestSafe, RowsExact, OneCover, PlayForced, JustifiedKept, HarmlessLoop, ExactAnswered, Dues, ServedHarmless, KeptRun, LostRun};
 
 pub fn lasting_falls()
     ensures { λ _. ⌜ LastingFalls ⌝ }
@@ -46,6 +46,10 @@ pub fn exact_answered()
 
 pub fn dues()
     ensures { λ _. ⌜ Dues ⌝ }
+{}
+
+pub fn served_harmless()
+    ensures { λ _. ⌜ ServedHarmless ⌝ }
 {}
 
 pub fn kept_run()
