@@ -12,7 +12,7 @@ use Rattle.circuit.specs.declared.record.Side.the-variants.{Event, Answer}
 use Rattle.game.specs.Game.{Arena, lasts}
 use Rattle.game.specs.Models.{arenaOf}
 use Rattle.game.specs.Rows.{rowCovers}
-use Rattle.game.specs.Runs.{Exact}
+use Rattle.game.specs.Runs.{Kept, GivenUp}
 use Rattle.game.specs.declared.row.Row.{Row}
 
 abbrev literal : ℕ → Literal
@@ -42,9 +42,12 @@ clearing = arenaOf (oneLatch 5) oneGate
 abbrev pub setting : Arena
 setting = arenaOf (oneLatch 1) oneGate
 
--- the row of the states in which the latch is set
+-- the row of the states in which the latch is set, and the row of every state
 abbrev pub latchSet : Row
 latchSet = record { care = 1; value = 1; event = 1 }
+
+abbrev pub anyState : Row
+anyState = record { care = 0; value = 0; event = 0 }
 
 pub record WorkedCases : Type 0 where
   -- a step answers whether it is bad, and the next state
@@ -54,6 +57,8 @@ pub record WorkedCases : Type 0 where
   -- from state 1 the host lasts 0 steps and not 1
   pub lastsNone : (lasts clearing 0 1 ≡ true) × (lasts clearing 1 1 ≡ false)
   pub covers : (rowCovers latchSet 1 ≡ true) × (rowCovers latchSet 0 ≡ false)
-  pub exact : Exact clearing (latchSet ∷ [])
-  -- where nothing clears the latch the host lasts 1 step from reset and not 2
+  -- that row and one exception are what a run may end with: the host is kept
+  pub kept : Kept clearing 1 1 (latchSet ∷ [])
+  -- where nothing clears the latch the host lasts 1 step from reset and not 2, and is lost by two rows
   pub lastsOne : (lasts setting 1 0 ≡ true) × (lasts setting 2 0 ≡ false)
+  pub givenUp : GivenUp setting 2 (latchSet ∷ anyState ∷ [])
