@@ -10,7 +10,9 @@ use Rattle.std.proofs.shelf.Tests.{and-parts, and-from, leb-true, not-true}
 use Rattle.literal.specs.declared.Literal.{Literal}
 use Rattle.literal.specs.Truth.{variableOf}
 use Rattle.circuit.specs.declared.record.Gate.{Gate}
-use Rattle.circuit.specs.Sound.{member, fresh, known, defined, allFresh, gatesOrdered}
+use Rattle.circuit.specs.declared.record.Record.{Record}
+use Rattle.circuit.specs.Parts.{inputsOf, latchesOf}
+use Rattle.circuit.specs.Sound.{sources, member, fresh, known, defined, allFresh, gatesOrdered}
 
 pub record Fresh (m : ℕ) (vs : List ℕ) (l : Literal) : Type 0 where
   pub inside : variableOf l ≤ m
@@ -76,3 +78,10 @@ defined-append vs (x ∷ xs) ys = defined-append (variableOf x ∷ vs) xs ys
 pub all-from-map : {X Y : Type 0} (P : Y → Type 0) (f : X → Y) (xs : List X) → All P (map f xs) → All (λ x. P (f x)) xs
 all-from-map P f [] h = tt
 all-from-map P f (x ∷ xs) h = (h .0, all-from-map P f xs (h .1))
+
+-- the inputs of a record are fresh in turn, and then its latches
+pub sources-fresh : (r : Record) → allFresh (r .maximum) (0 ∷ []) (sources r) ≡ true
+    → (allFresh (r .maximum) (0 ∷ []) (map (λ i. i .literal) (inputsOf r)) ≡ true)
+    × (allFresh (r .maximum) (defined (0 ∷ []) (map (λ i. i .literal) (inputsOf r))) (map (λ l. l .literal) (latchesOf r)) ≡ true)
+sources-fresh r h =
+    and-parts _ _ (sym (fresh-append (r .maximum) (0 ∷ []) (map (λ i. i .literal) (inputsOf r)) (map (λ l. l .literal) (latchesOf r))) ∙ h)

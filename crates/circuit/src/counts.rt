@@ -1,6 +1,8 @@
 // How large a model is, and the parts that it uses.
 
 ghost use mathlib.Core.Path.{_≡_};
+ghost use Prim.Native.Nat.{_+_};
+ghost use lib.ListN.{length};
 ghost use Rattle.circuit.specs.Parts.{inputsOf, latchesOf, gatesOf};
 ghost use Rattle.circuit.specs.Sound.{eventCount, answerCount};
 use crate::model::Model;
@@ -60,14 +62,16 @@ impl<'a> Model<'a> {
     pub fn used_gates(&self) -> &'a [Gate]
         ensures { λ r. ⌜ now r ≡ gatesOf (now (now (self .entry) .«record»)) (now (now (self .entry) .gates)) ⌝ }
     {
+        let record = self.record;
         let gates = self.gates;
-        &gates[0..self.record.gate_count]
+        &gates[0..record.gate_count]
     }
 }
 
 // How many of the inputs the host sets.
 fn on_answer_side(inputs: &[Input]) -> usize
-    ensures { λ r. ⌜ r ≡ answerCount (now (inputs .entry)) ⌝ }
+    ensures value { λ r. ⌜ r ≡ answerCount (now (inputs .entry)) ⌝ }
+    ensures others { λ r. ⌜ r + eventCount (now (inputs .entry)) ≡ length (now (inputs .entry)) ⌝ }
 {
     let mut count = 0;
     for input in inputs {

@@ -7,6 +7,7 @@ pub mod record;
 pub mod step;
 
 pub use fault::StepFault;
+pub use fault::StepFaultDisplay;
 pub use model::Model;
 pub use record::Gate;
 pub use record::Input;

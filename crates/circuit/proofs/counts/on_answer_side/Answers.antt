@@ -1,8 +1,7 @@
-use borrow.Author.Needs.{needs}
 use native.Mathlib.Omega.{arith}
 use Rattle.circuit.specs.declared.record.Side.the-variants.{Event, Answer}
 use Rattle.circuit.specs.Parts.{blankInput}
-use Rattle.circuit.proofs.Sides.{answer-count-more, answer-count-all}
+use Rattle.circuit.proofs.Sides.{answer-count-more, answer-count-all, both-sides}
 use Rattle.circuit.proofs.counts.on_answer_side.Needs as need
 use Rattle.circuit.proofs.counts.on_answer_side.Needs.{in-Answer, in-rest}
 
@@ -15,4 +14,9 @@ loop-input-again c =
     ]
 
 pub returns : need.returns
-returns c = search (needs, answer-count-all (c .args .inputs .now) (c .loop-input .input-index) (search needs))
+returns c =
+    let e = answer-count-all (c .args .inputs .now) (c .loop-input .input-index) (c .loop-input-test .left) in
+    record {
+      value = omega (arith, c .loop-input .inv .0);
+      others = omega (arith, c .loop-input .inv .0, both-sides (c .args .inputs .now));
+    }

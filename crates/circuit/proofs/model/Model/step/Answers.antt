@@ -1,16 +1,12 @@
-use Prim.Native.Nat.{_≤_}
-use mathlib.Core.Path.{_≡_, refl, ap}
-use lib.ListN.{length, length-take}
-use native.Mathlib.Omega.{arith}
-use Rattle.circuit.specs.Parts.{latchesOf}
-use Rattle.circuit.proofs.Tables.{new-table}
-use Rattle.circuit.proofs.Soundness.{soundness}
+use Rattle.circuit.proofs.Answered.{settled, next-bound}
 use Rattle.circuit.proofs.model.Model.step.Needs as need
 
-pub work-out-requires : need.work-out-requires
-work-out-requires c κs = record { places = refl; blank = new-table 4097 }
-
-pub next-state-next-requires : need.next-state-next-requires
-next-state-next-requires c κs =
+pub returns : need.returns
+returns c =
     let m = c .args .self .now in
-    omega (arith, simp length-take at (ap length (c .used-latches .ensures)), soundness (m .record .now) (m .gates .now) (m .fit) .sizes .latches)
+    let x = c .args in
+    record {
+      value = c .outcome .ensures;
+      bound = next-bound (m .record .now) (m .gates .now) (x .state) (x .event) (x .answer) (m .fit) (c .outcome .result) (c .outcome .ensures);
+      settled = settled (m .record .now) (m .gates .now) (x .state) (x .event) (x .answer) (m .fit) (c .outcome .result) (c .outcome .ensures);
+    }
