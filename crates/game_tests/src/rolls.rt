@@ -85,6 +85,27 @@ fn exceptions_fill_up() -> Result<(), Fail> {
 }
 
 #[test]
+fn blank_elements_are_zeros() -> Result<(), Fail> {
+    check_eq(
+        Row::BLANK,
+        Row {
+            care: 0,
+            value: 0,
+            event: 0,
+        },
+    )?;
+    check_eq(
+        Exception::BLANK,
+        Exception {
+            state_care: 0,
+            state_value: 0,
+            event_care: 0,
+            event_value: 0,
+        },
+    )
+}
+
+#[test]
 fn faults_have_numbers_and_words(rt: LibcRuntime) -> Result<(), Fail> {
     check_eq(RollFault::Full.number(), 27)?;
     check_eq(RollFault::NotUsed.number(), 28)?;
