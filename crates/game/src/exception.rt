@@ -2,7 +2,7 @@
 
 ghost use mathlib.Core.Path.{_≡_};
 ghost use Rattle.game.specs.Bits.{ExceptionBits};
-ghost use Rattle.game.specs.Rows.{exceptionCovers};
+ghost use Rattle.game.specs.Rows.{blankException, exceptionCovers};
 use crate::mask::agrees_on;
 use roll::Covering;
 
@@ -29,6 +29,13 @@ impl Exception {
         event_care: 0,
         event_value: 0,
     };
+
+    // An exception of zeros.
+    pub fn blank() -> Exception
+        ensures { λ r. ⌜ r ≡ blankException ⌝ }
+    {
+        Exception::BLANK
+    }
 }
 
 pub impl Covering for Exception as ExceptionCovering {

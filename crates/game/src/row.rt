@@ -2,7 +2,7 @@
 
 ghost use mathlib.Core.Path.{_≡_};
 ghost use Rattle.game.specs.Bits.{RowBits};
-ghost use Rattle.game.specs.Rows.{rowCovers};
+ghost use Rattle.game.specs.Rows.{blankRow, rowCovers};
 use crate::mask::agrees_on;
 use roll::Covering;
 
@@ -20,6 +20,13 @@ impl Row {
         value: 0,
         event: 0,
     };
+
+    // A row of zeros.
+    pub fn blank() -> Row
+        ensures { λ r. ⌜ r ≡ blankRow ⌝ }
+    {
+        Row::BLANK
+    }
 }
 
 pub impl Covering for Row as RowCovering {
