@@ -1,7 +1,7 @@
 // A literal of a circuit or of a clause.
 
 ghost use mathlib.Core.Path.{_≡_};
-ghost use mathlib.Core.Bool.{not};
+ghost use mathlib.Core.Bool.{false, not};
 ghost use Rattle.literal.specs.Truth.{Values, variableOf, negated, negationOf, truth, valuesOf};
 
 // Code 2v is variable v, and 2v + 1 its negation. Variable 0 is false, so code 0 is false and code 1 is true.
@@ -14,6 +14,13 @@ impl Literal {
     pub const FALSE: Literal = Literal { code: 0 };
 
     pub const TRUE: Literal = Literal { code: 1 };
+
+    // The literal that has a value whatever the variables are.
+    pub fn constant(value: bool) -> Literal
+        ensures { λ r. ⌜ ((v : Values) → v 0 ≡ false → truth v r ≡ value) ⌝ }
+    {
+        if value { Literal::TRUE } else { Literal::FALSE }
+    }
 
     pub fn variable(self) -> usize
         ensures { λ r. ⌜ r ≡ variableOf self ⌝ }
