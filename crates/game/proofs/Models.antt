@@ -1,6 +1,6 @@
 -- The arena of a model is in range: its next states are numbers of as many bits as there are latches.
 use Prim.Native.Nat.{ℕ, _<_, _≤_, _^_}
-use mathlib.Core.Path.{_≡_}
+use mathlib.Core.Path.{_≡_, refl}
 use mathlib.Core.List.{List}
 use native.Mathlib.Omega.{arith}
 use lib.ListN.{length}
@@ -12,9 +12,9 @@ use Rattle.circuit.specs.declared.record.Gate.{Gate}
 use Rattle.circuit.specs.declared.record.Record.{Record}
 use Rattle.circuit.specs.Parts.{inputsOf, latchesOf}
 use Rattle.circuit.specs.Sound.{eventCount, answerCount}
-use Rattle.circuit.specs.Step.{stateCount, valuesAt, nextAt}
+use Rattle.circuit.specs.Step.{stateCount, valuesAt, nextAt, stepOf}
 use Rattle.game.specs.Game.{InRange}
-use Rattle.game.specs.Models.{arenaOf, Playable}
+use Rattle.game.specs.Models.{arenaOf, stepIn, Playable}
 
 next-in-range : (r : Record) (gs : List Gate) (s e a : ℕ) → nextAt r gs s e a < stateCount r
 next-in-range r gs s e a =
@@ -30,3 +30,7 @@ playable r gs =
       someEvent = pow-pos (eventCount (inputsOf r));
       someAnswer = pow-pos (answerCount (inputsOf r));
     }
+
+-- what the circuit's step answers is the arena's step
+pub step-in : (r : Record) (gs : List Gate) (s e a : ℕ) → stepOf r gs s e a ≡ stepIn (arenaOf r gs) s e a
+step-in r gs s e a = refl
