@@ -10,12 +10,12 @@ use denote.Ref.{now, name}
 use lib.Chars.{codes}
 use lib.Dec.{ltb}
 use lib.ListN.{length, getD, drop, set}
-use Rattle.std.specs.Written as std
 use Rattle.std.proofs.shelf.Lists.{at-drop-more, at-drop-all, length-take-le, length-take, length-append}
 use Rattle.std.proofs.shelf.Edits.{sets, sets-eq}
 use Rattle.std.proofs.shelf.Tests.{cond-both}
-use Rattle.std.proofs.shelf.Decimals.{Spells, decimal-from-spells, length-decimal-le, decimal-digit, decimal-step}
+use Rattle.std.proofs.shelf.Decimals.{decimal-digit, decimal-step}
 use Rattle.text.specs.Number.{decimalIn, decimal}
+use Rattle.text.proofs.Inverse.{std-decimal}
 use Rattle.circuit.specs.declared.record.Gate.{Gate}
 use Rattle.circuit.specs.declared.record.Input.{Input}
 use Rattle.circuit.specs.declared.record.Latch.{Latch}
@@ -58,13 +58,6 @@ module _ {X : Type 0} (line : X → Content) (xs : List X) (i : ℕ) (w : Writer
   lines-all h = at-drop-all (λ t. put (texts (map line t)) w) xs i h ∙ put-none w
 
 -- a number in decimal: its digits but the last, and then the last
-spells : Spells decimalIn
-spells = search needs
-
-std-decimal : (n : ℕ) → n ≤ 65535 → decimal n ≡ std.decimal n
-unfolding decimal
-std-decimal n h = decimal-from-spells decimalIn spells 5 n (omega arith) (length-decimal-le 5 n (omega arith) (omega arith) (omega arith))
-
 decimal-one : (n : ℕ) → n < 10 → decimal n ≡ (48 + n) ∷ []
 decimal-one n h = std-decimal n (omega arith) ∙ decimal-digit n h
 
