@@ -1,5 +1,7 @@
 -- The number of each refusal of a file, and the line that it returns; the number of each refusal to write.
 use Prim.Native.Nat.{ℕ}
+use mathlib.Core.List.{List}
+use lib.Chars.{codes}
 use Rattle.aiger.specs.declared.fault.ReadFault.{ReadFault}
 use Rattle.aiger.specs.declared.fault.ReadFault.the-variants.{FileTooLong, BadHeader, BadSizes, ShortTable, Malformed, BadLiteral, DefinedTwice, Undefined, BadSymbol, SideTooLarge}
 use Rattle.aiger.specs.declared.fault.WriteFault.{WriteFault}
@@ -26,3 +28,18 @@ refusalOf SideTooLarge = refusal 10 1
 
 abbrev pub writeNumber : WriteFault → ℕ
 writeNumber BufferShort = 11
+
+abbrev pub readReason : ReadFault → List ℕ
+readReason FileTooLong = codes "the file has more than 65,536 bytes"
+readReason BadHeader = codes "the header is not 'aag M I L O A' with five numbers"
+readReason BadSizes = codes "a number of the header is over its limit, or there are too few variables"
+readReason ShortTable = codes "the gate table has fewer places than the file has gates"
+readReason (Malformed l) = codes "the line is malformed or absent"
+readReason (BadLiteral l) = codes "a literal is too large, or the one defined is odd or 0"
+readReason (DefinedTwice l) = codes "the literal is defined twice"
+readReason (Undefined l) = codes "an operand is not defined"
+readReason (BadSymbol l) = codes "the symbol is malformed, out of range or named twice"
+readReason SideTooLarge = codes "more than 12 inputs are on one side"
+
+abbrev pub writeReason : WriteFault → List ℕ
+writeReason BufferShort = codes "the buffer is shorter than the model's text"

@@ -1,7 +1,8 @@
 // Why a file is refused, and why a model is not written.
 
 ghost use mathlib.Core.Path.{_≡_};
-ghost use Rattle.aiger.specs.Faults.{refusalOf, writeNumber};
+ghost use Rattle.std.specs.declared.option.Option.the-variants.{Some};
+ghost use Rattle.aiger.specs.Faults.{refusalOf, writeNumber, readReason, writeReason};
 use std::fmt;
 
 // A case that a line can bring has that line's number.
@@ -54,7 +55,9 @@ impl ReadFault {
         }
     }
 
-    fn reason(self) -> &'static str {
+    fn reason(self) -> &'static str
+        ensures { λ r. ⌜ now r ≡ readReason self ⌝ }
+    {
         match self {
             ReadFault::FileTooLong => "the file has more than 65,536 bytes",
             ReadFault::BadHeader => "the header is not 'aag M I L O A' with five numbers",
@@ -72,6 +75,8 @@ impl ReadFault {
 }
 
 pub impl fmt::Display for ReadFault as ReadFaultDisplay {
+    ghost shown = { λ f. Some (readReason f) };
+
     fn fmt<W: fmt::Write>(&self, f: &mut fmt::Formatter<W>) -> fmt::Result {
         f.write_str(self.reason())
     }
@@ -91,7 +96,9 @@ impl WriteFault {
         }
     }
 
-    fn reason(self) -> &'static str {
+    fn reason(self) -> &'static str
+        ensures { λ r. ⌜ now r ≡ writeReason self ⌝ }
+    {
         match self {
             WriteFault::BufferShort => "the buffer is shorter than the model's text",
         }
@@ -99,6 +106,8 @@ impl WriteFault {
 }
 
 pub impl fmt::Display for WriteFault as WriteFaultDisplay {
+    ghost shown = { λ f. Some (writeReason f) };
+
     fn fmt<W: fmt::Write>(&self, f: &mut fmt::Formatter<W>) -> fmt::Result {
         f.write_str(self.reason())
     }
