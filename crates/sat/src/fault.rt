@@ -1,0 +1,52 @@
+// Why a solver refuses a call.
+
+ghost use mathlib.Core.Path.{_≡_};
+ghost use Rattle.sat.specs.Faults.{faultNumber};
+use std::fmt;
+
+#[derive(Clone, Copy, PartialEq, Eq, Debug)]
+pub enum SolverFault {
+    VariableOutOfRange,
+    TooManyLiterals,
+    CellsFull,
+    CountExceeded,
+    BufferShort,
+    SizeUnfit,
+    FirstExceeded,
+}
+
+impl SolverFault {
+    pub fn number(self) -> u8
+        ensures { λ r. ⌜ r ≡ faultNumber self ⌝ }
+    {
+        match self {
+            SolverFault::VariableOutOfRange => 20,
+            SolverFault::TooManyLiterals => 21,
+            SolverFault::CellsFull => 22,
+            SolverFault::CountExceeded => 23,
+            SolverFault::BufferShort => 24,
+            SolverFault::SizeUnfit => 25,
+            SolverFault::FirstExceeded => 26,
+        }
+    }
+}
+
+pub impl fmt::Display for SolverFault as SolverFaultDisplay {
+    fn fmt<W: fmt::Write>(&self, f: &mut fmt::Formatter<W>) -> fmt::Result {
+        match *self {
+            SolverFault::VariableOutOfRange => write!(f, "a literal's variable is 0 or too large"),
+            SolverFault::TooManyLiterals => write!(f, "more than 64 literals"),
+            SolverFault::CellsFull => write!(f, "too few cells are left free"),
+            SolverFault::CountExceeded => write!(f, "fewer clauses are held than are to be kept"),
+            SolverFault::BufferShort => write!(
+                f,
+                "the buffer for values or for marks is too short"
+            ),
+            SolverFault::SizeUnfit => write!(f, "too few numbers, or too many variables"),
+            SolverFault::FirstExceeded => write!(
+                f,
+                "fewer assumptions than are always to be marked"
+            ),
+        }
+    }
+}
