@@ -1,2 +1,5 @@
 pub mod Checks
+pub mod Codes
+pub mod Loops
 pub mod Ranges
+pub mod Stores
