@@ -1,5 +1,6 @@
 pub mod Checks
 pub mod Codes
+pub mod Laws
 pub mod Loops
 pub mod Ranges
 pub mod Stores

@@ -2,6 +2,8 @@
 // first, a store for its clauses, and a byte for each value.
 
 pub mod answer;
+pub mod assumptions;
+pub mod bytes;
 mod cells;
 pub mod check;
 pub mod fault;
@@ -10,6 +12,9 @@ pub mod store;
 mod table;
 
 pub use answer::Answer;
+pub use assumptions::Picked;
+pub use assumptions::all_hold;
+pub use bytes::fill_front;
 pub use check::MAX_LITERALS;
 pub use check::check_decide;
 pub use check::check_hold;
