@@ -8,7 +8,7 @@ use native.Mathlib.Omega.{arith}
 use lib.Dec.{eqb, leb, ltb}
 use lib.ListN.{length, getD, set, take, drop, replicate}
 use Rattle.std.proofs.shelf.Tests.{and-parts, and-from, cases-bool, cases-eq, eqb-true, eqb-false, eq-eqb, ne-eqb, ltb-true, leb-true, lt-ltb, le-leb}
-use Rattle.std.proofs.shelf.Lists.{getD-set-same, getD-set-other, set-past, append-nil}
+use Rattle.std.proofs.shelf.Lists.{take-all}
 use Rattle.literal.specs.declared.Literal.{Literal}
 use Rattle.literal.specs.Truth.{Values, truth, variableOf, negated}
 use Rattle.sat.specs.Clauses.{Clause, anyTrue, allTrue, satisfies, Satisfiable, Unsatisfiable, marked, cellsOf}
@@ -196,3 +196,14 @@ none-from-take cs n ls u v s h = u v (satisfies-take v n cs s) h
 -- an answer is the only one
 pub yes-or-no : (cs : List Clause) (ls : List Literal) (ms : List ℕ) → Satisfiable cs ls → Unsatisfiable cs (marked ls ms) → ⊥
 yes-or-no cs ls ms s u = none-whole cs ls ms u (s .0) (s .1) (s .2)
+
+-- no more are marked than there are
+pub marked-length : (ls : List Literal) (ms : List ℕ) → length (marked ls ms) ≤ length ls
+marked-length [] ms = omega arith
+marked-length (l ∷ ls) [] = omega arith
+marked-length (l ∷ ls) (m ∷ ms) =
+    let r = marked-length ls ms in
+    elim (eqb m 1) as (λ b. length (cond b (l ∷ marked ls ms) (marked ls ms)) ≤ suc (length ls)) [ true ↦ omega arith | false ↦ omega arith ]
+
+pub marked-picked : (ls : List Literal) (ms : List ℕ) → length ls ≤ 64 → take 64 (marked ls ms) ≡ marked ls ms
+marked-picked ls ms h = take-all 64 (marked ls ms) (omega (arith, marked-length ls ms))

@@ -21,20 +21,23 @@ pub record NarrowedBelow (cs : List Clause) (assumed : List Literal) (first i : 
 -- a mark that is taken away
 pub unmarked : (ms : List ℕ) (k : ℕ) → getD (set ms k 0) k 0 ≡ 0
 unmarked ms k = elim (cases-lt k (length ms)) [
-      inl l ↦ getD-set-same ms k 0 0 l
-    | inr g ↦ getD-past (set ms k 0) k 0 (omega (arith, length-set ms k 0)) ]
+  | inl l ↦ getD-set-same ms k 0 0 l
+  | inr g ↦ getD-past (set ms k 0) k 0 (omega (arith, length-set ms k 0))
+]
 
 pub unmarked-fewer : (ms : List ℕ) (k j : ℕ) → getD (set ms k 0) j 0 ≡ 1 → getD ms j 0 ≡ 1
 unmarked-fewer ms k j e = elim (cases-eq j k) [
-      inl q ↦ absurd (omega (arith, unmarked ms k, ap (λ x. getD (set ms k 0) x 0) q, e))
-    | inr n ↦ sym (getD-set-other ms k j 0 0 n) ∙ e ]
+  | inl q ↦ absurd (omega (arith, unmarked ms k, ap (λ x. getD (set ms k 0) x 0) q, e))
+  | inr n ↦ sym (getD-set-other ms k j 0 0 n) ∙ e
+]
 
 -- taking a mark away from fewer marks leaves fewer
 unmarked-both : (ms ns : List ℕ) (k n : ℕ) → ((j : ℕ) → j < n → getD ms j 0 ≡ 1 → getD ns j 0 ≡ 1)
     → (j : ℕ) → j < n → getD (set ms k 0) j 0 ≡ 1 → getD (set ns k 0) j 0 ≡ 1
 unmarked-both ms ns k n w j l e = elim (cases-eq j k) [
-      inl q ↦ absurd (omega (arith, unmarked ms k, ap (λ x. getD (set ms k 0) x 0) q, e))
-    | inr d ↦ getD-set-other ns k j 0 0 d ∙ w j l (sym (getD-set-other ms k j 0 0 d) ∙ e) ]
+  | inl q ↦ absurd (omega (arith, unmarked ms k, ap (λ x. getD (set ms k 0) x 0) q, e))
+  | inr d ↦ getD-set-other ns k j 0 0 d ∙ w j l (sym (getD-set-other ms k j 0 0 d) ∙ e)
+]
 
 module _ (cs : List Clause) (assumed : List Literal) (first i : ℕ) (before ms : List ℕ) (sofar : NarrowedBelow cs assumed first i before ms) where
   -- without the one at i the clauses have satisfying values, so it stays
@@ -43,8 +46,10 @@ module _ (cs : List Clause) (assumed : List Literal) (first i : ℕ) (before ms 
     refuted = sofar .refuted;
     firsts = sofar .firsts;
     narrow = λ k f l e. elim (cases-eq k i) [
-        inl q ↦ subst (λ (x : ℕ). Satisfiable cs (marked assumed (set ms x 0))) (sym q) s
-      | inr d ↦ sofar .narrow k f (omega arith) e ] }
+      | inl q ↦ subst (λ (x : ℕ). Satisfiable cs (marked assumed (set ms x 0))) (sym q) s
+      | inr d ↦ sofar .narrow k f (omega arith) e
+    ];
+  }
 
   -- the one at i is not marked
   pub narrowed-skipped : (getD ms i 0 ≡ 1 → ⊥) → NarrowedBelow cs assumed first (i + 1) before ms
@@ -52,8 +57,10 @@ module _ (cs : List Clause) (assumed : List Literal) (first i : ℕ) (before ms 
     refuted = sofar .refuted;
     firsts = sofar .firsts;
     narrow = λ k f l e. elim (cases-eq k i) [
-        inl q ↦ absurd (n (ap (λ x. getD ms x 0) (sym q) ∙ e))
-      | inr d ↦ sofar .narrow k f (omega arith) e ] }
+      | inl q ↦ absurd (n (ap (λ x. getD ms x 0) (sym q) ∙ e))
+      | inr d ↦ sofar .narrow k f (omega arith) e
+    ];
+  }
 
   -- fewer marks, without the one at i, are enough: those that could not be left out still cannot
   pub narrowed-dropped : (ns : List ℕ) → i < length assumed → Refuted cs assumed before ns → ((k : ℕ) → k < first → getD ns k 0 ≡ 1)
@@ -63,18 +70,21 @@ module _ (cs : List Clause) (assumed : List Literal) (first i : ℕ) (before ms 
     refuted = r;
     firsts = f;
     narrow = λ k g l e. elim (cases-eq k i) [
-        inl q ↦ absurd (n (ap (λ x. getD ns x 0) (sym q) ∙ e))
+      | inl q ↦ absurd (n (ap (λ x. getD ns x 0) (sym q) ∙ e))
       | inr d ↦
-        let b : k < i = omega arith in
-        some-fewer-marks cs assumed (set ns k 0) (set ms k 0) (unmarked-both ns ms k (length assumed) w)
-        (sofar .narrow k g b (w k (omega arith) e)) ] }
+          let b : k < i = omega arith in
+          some-fewer-marks cs assumed (set ns k 0) (set ms k 0) (unmarked-both ns ms k (length assumed) w)
+          (sofar .narrow k g b (w k (omega arith) e))
+    ];
+  }
 
 pub narrowed-all : (cs : List Clause) (assumed : List Literal) (first i : ℕ) (before ms : List ℕ) → length assumed ≤ i
     → NarrowedBelow cs assumed first i before ms → Narrowed cs assumed first before ms
 narrowed-all cs assumed first i before ms h s = record {
   refuted = s .refuted;
   firsts = s .firsts;
-  narrow = λ k f l e. s .narrow k f (omega arith) e }
+  narrow = λ k f l e. s .narrow k f (omega arith) e;
+}
 
 pub narrowed-none : (cs : List Clause) (assumed : List Literal) (first : ℕ) (before ms : List ℕ) → Refuted cs assumed before ms
     → ((k : ℕ) → k < first → getD ms k 0 ≡ 1) → NarrowedBelow cs assumed first first before ms
@@ -85,10 +95,12 @@ pub refuted-unmarked : (cs : List Clause) (assumed : List Literal) (before ms : 
     → Unsatisfiable cs (marked assumed (set ms i 0)) → Refuted cs assumed before (set ms i 0)
 refuted-unmarked cs assumed before ms i h r u = record {
   bits = λ k l. elim (cases-eq k i) [
-      inl q ↦ omega (arith, unmarked ms i, ap (λ x. getD (set ms i 0) x 0) q)
-    | inr d ↦ omega (arith, getD-set-other ms i k 0 0 d, r .bits k l) ];
+    | inl q ↦ omega (arith, unmarked ms i, ap (λ x. getD (set ms i 0) x 0) q)
+    | inr d ↦ omega (arith, getD-set-other ms i k 0 0 d, r .bits k l)
+  ];
   none = u;
-  rest = drop-set-lt (length assumed) ms i 0 h ∙ r .rest }
+  rest = drop-set-lt (length assumed) ms i 0 h ∙ r .rest;
+}
 
 pub set-back : (ms : List ℕ) (i : ℕ) → getD ms i 0 ≡ 1 → set (set ms i 0) i 1 ≡ ms
 set-back ms i e = set-set ms i 0 1 ∙ ap (λ x. set ms i x) (sym e) ∙ set-getD ms i 0
@@ -123,4 +135,5 @@ refuted-all cs assumed before ms h e u =
     record {
       bits = λ k l. omega (arith, at k l);
       none = none-marked cs assumed ms at u;
-      rest = front-rest (length assumed) 1 before ms h e }
+      rest = front-rest (length assumed) 1 before ms h e;
+    }

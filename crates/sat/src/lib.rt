@@ -1,15 +1,12 @@
-// What a solver is: its refusals, its answers, the two traits; and what every solver is built from: the checks it makes
-// first, a store for its clauses, and a byte for each value.
+// What a solver is: its refusals, its answers, the two traits; and what solvers are built from: the checks that each makes
+// first, the marked ones of its assumptions, and the front of a buffer.
 
 pub mod answer;
 pub mod assumptions;
 pub mod bytes;
-mod cells;
 pub mod check;
 pub mod fault;
 pub mod solver;
-pub mod store;
-mod table;
 
 pub use answer::Answer;
 pub use assumptions::Picked;
@@ -23,4 +20,3 @@ pub use check::check_narrow;
 pub use fault::SolverFault;
 pub use solver::NarrowingSolver;
 pub use solver::Solver;
-pub use store::Store;
