@@ -1,25 +1,22 @@
 -- Values written as bytes, and what they then solve.
 use mathlib.Core.Path.{_≡_, refl, sym, ap, _∙_}
 use mathlib.Core.Logic.{_≢_, inl, inr}
-use mathlib.Core.List.{List, _++_}
+use mathlib.Core.List.{List}
 use mathlib.Core.Bool.{Bool, true, false, cond}
-use Prim.Native.Nat.{ℕ, zero, suc, min, _+_, _<_, _≤_}
+use Prim.Native.Nat.{ℕ, _+_, _<_, _≤_}
 use native.Mathlib.Omega.{arith}
 use lib.Dec.{eqb}
-use lib.ListN.{length, getD, set, drop, replicate}
+use lib.ListN.{length, getD, set, drop}
 use Rattle.std.proofs.shelf.Lists.{getD-set-same, getD-set-other, drop-set-lt}
 use Rattle.std.proofs.shelf.Tests.{cases-eq, cases-lt}
 use Rattle.literal.specs.declared.Literal.{Literal}
 use Rattle.literal.specs.Truth.{valuesOf}
 use Rattle.sat.specs.Clauses.{Clause, satisfies, allTrue, byteValues}
 use mir.Val.{boolByte}
-use Rattle.std.specs.declared.result.Result.the-variants.{Ok}
 use Rattle.std.specs.declared.option.Option.the-variants.{None}
 use Rattle.std.proofs.shelf.Ways.{tells}
 use Rattle.counting.specs.Sizes.{sizeFault}
-use Rattle.sat.specs.Answers.{Solved, Refuted, Narrowed, Decided, DecidedNarrowly, zeroed}
-use Rattle.sat.specs.declared.answer.Answer.{Answer}
-use Rattle.sat.specs.declared.answer.Answer.the-variants.{Yes, No}
+use Rattle.sat.specs.Answers.{Solved}
 use Rattle.sat.specs.Faults.{inRange, allInRange}
 use Rattle.sat.proofs.Laws.{all-agrees, satisfies-agrees}
 
@@ -68,41 +65,6 @@ written-solves V cs assumed table before after r a s h z w e =
 pub flag-byte : (b : Bool) (y : ℕ) → y ≡ boolByte b → y ≡ cond b 1 0
 flag-byte true y e = e
 flag-byte false y e = e
-
-yes-no : {Y : Type 0} → Yes ≡ No → Y
-yes-no e = let z : _≡_ {A = ℕ} 0 1 = cc in absurd (omega arith)
-
-pub yes-is-not-no : {Y : Type 0} (a : Answer) → a ≡ Yes → a ≡ No → Y
-yes-is-not-no a p q = yes-no (sym p ∙ q)
-
--- a decision that is a no
-pub decided-no : (V : ℕ) (cs : List Clause) (assumed : List Literal) (vs ms vs′ ms′ : List ℕ) (a : Answer)
-    → Decided V cs assumed vs ms vs′ ms′ (Ok a) → a ≡ No → Refuted cs assumed ms ms′ × (vs′ ≡ vs)
-decided-no V cs assumed vs ms vs′ ms′ Yes d e = yes-no e
-decided-no V cs assumed vs ms vs′ ms′ No d e = d
-
-narrowed-rest : (cs : List Clause) (assumed : List Literal) (first : ℕ) (a b d : List ℕ)
-    → drop (length assumed) b ≡ drop (length assumed) a → Narrowed cs assumed first b d → Narrowed cs assumed first a d
-narrowed-rest cs assumed first a b d e n = record {
-  refuted = record { bits = n .refuted .bits; none = n .refuted .none; rest = n .refuted .rest ∙ e };
-  firsts = n .firsts;
-  narrow = n .narrow;
-}
-
-pub zeroed-all : (n V : ℕ) (vs vs′ ws : List ℕ) → n ≡ V + 1 → V < length vs → vs′ ≡ vs
-    → ws ≡ replicate (min n (length vs′)) 0 ++ drop n vs′ → ws ≡ zeroed (V + 1) vs
-zeroed-all n V vs vs′ ws e h q w =
-    let m : min n (length vs) ≡ V + 1 = omega arith in
-    w ∙ ap (λ x. replicate (min n (length x)) 0 ++ drop n x) q ∙ ap (λ k. replicate k 0 ++ drop n vs) m ∙ ap (λ k. replicate (V + 1) 0 ++ drop k vs) e
-
--- marks that were all set, and then narrowed, with the values zeroed
-pub narrowed-no : (V n first : ℕ) (cs : List Clause) (assumed : List Literal) (vs ms vs′ ms′ ws ns : List ℕ) (a : Answer)
-    → Decided V cs assumed vs ms vs′ ms′ (Ok a) → a ≡ No → Narrowed cs assumed first ms′ ns
-    → n ≡ V + 1 → V < length vs → ws ≡ replicate (min n (length vs′)) 0 ++ drop n vs′
-    → DecidedNarrowly V cs assumed first vs ms ws ns (Ok a)
-narrowed-no V n first cs assumed vs ms vs′ ms′ ws ns Yes d e x p h w = yes-no e
-narrowed-no V n first cs assumed vs ms vs′ ms′ ws ns No d e x p h w =
-    (narrowed-rest cs assumed first ms ms′ ns (d .0 .rest) x, zeroed-all n V vs vs′ ws p h (d .1) w)
 
 -- sizes
 

@@ -1,4 +1,5 @@
 pub mod Checks
+pub mod Decisions
 pub mod Laws
 pub mod Loops
 pub mod Narrowing

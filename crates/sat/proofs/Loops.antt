@@ -50,7 +50,7 @@ take-push n xs ys = elim (cases-lt (length xs) n) [
   | inr g ↦ (take-append-le n (take n xs) ys (omega (arith, length-take n xs)) ∙ take-take n n xs (omega arith) ∙ sym (take-append-le n xs ys g))
 ]
 
-marked-push : (ls : List Literal) (ms : List ℕ) (l : Literal) (m : ℕ) → length ls ≡ length ms
+pub marked-push : (ls : List Literal) (ms : List ℕ) (l : Literal) (m : ℕ) → length ls ≡ length ms
     → marked (ls ++ l ∷ []) (ms ++ m ∷ []) ≡ marked ls ms ++ cond (eqb m 1) (l ∷ []) []
 marked-push [] [] l m e = refl
 marked-push [] (n ∷ ms) l m e = absurd (omega arith)

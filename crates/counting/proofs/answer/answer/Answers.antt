@@ -5,7 +5,8 @@ use lib.ListN.{length, drop}
 use Rattle.sat.specs.declared.answer.Answer.the-variants.{Yes}
 use Rattle.counting.specs.Held.{held}
 use Rattle.sat.proofs.Narrowing.{refuted-all, front-at}
-use Rattle.counting.proofs.Written.{written-solves, yes-is-not-no}
+use Rattle.counting.proofs.Written.{written-solves}
+use Rattle.sat.proofs.Decisions.{yes-is-not-no}
 use Rattle.counting.proofs.answer.answer.Needs as need
 
 pub returns-in-Some : need.returns-in-Some
