@@ -4,3 +4,4 @@ pub mod Laws
 pub mod Loops
 pub mod Narrowing
 pub mod Ranges
+pub mod Cases

@@ -1,7 +1,9 @@
 // A solver's answer.
 
 ghost use mathlib.Core.Path.{_≡_};
+ghost use Rattle.std.specs.declared.option.Option.the-variants.{Some};
 ghost use Rattle.sat.specs.Answers.{answerNumber};
+ghost use Rattle.sat.specs.Texts.{answerText};
 use std::fmt;
 
 // Whether some values satisfy every clause and make every assumption true.
@@ -23,10 +25,12 @@ impl Answer {
 }
 
 pub impl fmt::Display for Answer as AnswerDisplay {
+    ghost shown = { λ a. Some (answerText a) };
+
     fn fmt<W: fmt::Write>(&self, f: &mut fmt::Formatter<W>) -> fmt::Result {
-        match *self {
-            Answer::Yes => write!(f, "yes"),
-            Answer::No => write!(f, "no"),
+        match self {
+            Answer::Yes => f.write_str("yes"),
+            Answer::No => f.write_str("no"),
         }
     }
 }

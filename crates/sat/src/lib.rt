@@ -7,6 +7,7 @@ pub mod bytes;
 pub mod check;
 pub mod fault;
 pub mod solver;
+pub mod worked;
 
 pub use answer::Answer;
 pub use assumptions::Picked;
@@ -20,3 +21,4 @@ pub use check::check_narrow;
 pub use fault::SolverFault;
 pub use solver::NarrowingSolver;
 pub use solver::Solver;
+pub use worked::worked_cases;
