@@ -95,7 +95,7 @@ pub impl<'a> Solver for Counting<'a> as CountingSolver {
     ghost cellCount = { λ s. room (s .table) };
 
     fn variables(&self) -> usize {
-        self.variables
+        self.largest()
     }
 
     fn cells(&self) -> usize {
@@ -103,7 +103,7 @@ pub impl<'a> Solver for Counting<'a> as CountingSolver {
     }
 
     fn hold(&mut self, clause: &[Literal]) -> Result<(), SolverFault> {
-        let free = self.table.len() - self.table.used();
+        let free = self.cells() - self.table.used();
         check_hold(clause, self.variables, free)?;
         self.table.push(clause);
         self.count += 1;

@@ -1,19 +1,14 @@
-// The layer: what is held is held by the solver below, and so is what is asked, but for the narrowing.
+// The layer: what is held is held by the solver below, and so is what is asked.
 
 ghost use mathlib.Core.Path.{_≡_};
-use crate::drops::drop_each;
 use literal::Literal;
 use sat::Answer;
-use sat::NarrowingSolver;
 use sat::Solver;
 use sat::SolverFault;
-use sat::answer::AnswerPartialEq;
-use sat::check_narrow;
-use sat::fill_front;
 
 #[derive(Drop)]
 pub struct Narrowing<S> {
-    below: S,
+    pub(crate) below: S,
 }
 
 impl<S: Solver> Narrowing<S> {
@@ -55,25 +50,5 @@ pub impl<S: Solver> Solver for Narrowing<S> as LayerSolver {
         marks: &mut [u8],
     ) -> Result<Answer, SolverFault> {
         self.below.decide(assumed, values, marks)
-    }
-}
-
-pub impl<S: Solver> NarrowingSolver for Narrowing<S> as LayerNarrowingSolver {
-    fn narrow(
-        &mut self,
-        assumed: &[Literal],
-        first: usize,
-        values: &mut [u8],
-        marks: &mut [u8],
-    ) -> Result<Answer, SolverFault> {
-        let variables = self.below.variables();
-        check_narrow(assumed, variables, first, values.len(), marks.len())?;
-        let answer = self.below.decide(assumed, values, marks)?;
-        if answer == Answer::No {
-            fill_front(marks, first, 1);
-            drop_each(&mut self.below, assumed, first, values, marks)?;
-            fill_front(values, variables + 1, 0);
-        }
-        Ok(answer)
     }
 }

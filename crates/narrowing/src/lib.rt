@@ -2,8 +2,9 @@
 
 mod drops;
 pub mod layer;
+pub mod narrow;
 mod sift;
 
-pub use layer::LayerNarrowingSolver;
 pub use layer::LayerSolver;
 pub use layer::Narrowing;
+pub use narrow::LayerNarrowingSolver;

@@ -12,7 +12,7 @@ use Rattle.sat.specs.Faults.{inRange, narrowFault}
 use Rattle.sat.proofs.Checks.{narrow-none, decide-passes}
 use Rattle.sat.proofs.Decisions.{decided-no, narrowed-from, zeroed-all, zeroed-same, narrowly-no}
 use Rattle.narrowing.proofs.Trying.{never, first-marked, first-bits, first-none, first-length, first-rest}
-use Rattle.narrowing.proofs.layer.LayerNarrowingSolver.narrow.Needs as need
+use Rattle.narrowing.proofs.narrow.LayerNarrowingSolver.narrow.Needs as need
 
 pub returns-in-Break-answer : need.returns-in-Break-answer
 returns-in-Break-answer g c =
