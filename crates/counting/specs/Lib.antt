@@ -1,0 +1,4 @@
+pub mod Cells
+pub mod Held
+pub mod Numbers
+pub mod Sizes
