@@ -1,0 +1,5 @@
+pub mod Cells
+pub mod Trails
+pub mod States
+pub mod Passes
+pub mod Held
