@@ -4,3 +4,4 @@ pub mod Weights
 pub mod Entails
 pub mod Sweeps
 pub mod Givens
+pub mod Codes

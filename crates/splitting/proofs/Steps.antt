@@ -36,7 +36,7 @@ stepped cs cells p j (c ∷ ds) e s h =
 pub step : (cells : List ℕ) (p j : ℕ) → Starts cells p j → p < length cells → Stepped (clauses cells) cells p j
 step cells p j s h = stepped (clauses cells) cells p j (drop j (clauses cells)) refl s h
 
-length-flat : (cs : List (List ℕ)) → length cs ≤ length (flat cs)
+pub length-flat : (cs : List (List ℕ)) → length cs ≤ length (flat cs)
 length-flat [] = omega arith
 length-flat (c ∷ cs) = omega (arith, length-flat cs, length-append c (flat cs))
 

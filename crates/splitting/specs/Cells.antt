@@ -64,3 +64,7 @@ pub record Reads (cells : List ℕ) (p j : ℕ) (c : List ℕ) : Type 0 where
   pub clause : c ≡ getD (clauses cells) j []
   pub below : j < length (clauses cells)
   pub next : Starts cells (p + 1 + length c) (j + 1)
+
+-- each literal's variable is one of 1 to V
+abbrev pub Within : List ℕ → ℕ → Type 0
+Within c V = (k : ℕ) → k < length c → (1 ≤ getD c k 0 / 2) × (getD c k 0 / 2 ≤ V)

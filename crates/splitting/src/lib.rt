@@ -2,6 +2,9 @@
 
 pub mod assume;
 pub mod clause;
+pub mod memory;
 pub mod propagate;
 pub mod search;
+pub mod sizes;
+pub mod store;
 pub mod trail;
