@@ -2,14 +2,14 @@
 use mathlib.Core.Path.{_≡_, refl, sym, ap, subst, _∙_}
 use mathlib.Core.Logic.{_≢_, _⊎_, inl, inr}
 use mathlib.Core.List.{List}
-use Prim.Native.Nat.{ℕ, _+_, _/_, _%_, _≤_, _<_}
+use Prim.Native.Nat.{ℕ, _+_, _-_, _/_, _%_, _≤_, _<_}
 use native.Mathlib.Omega.{arith}
 use borrow.Author.Count.{below-more}
 use lib.ListN.{length, getD, set}
 use Rattle.std.proofs.shelf.Lists.{getD-set-same, getD-set-other, getD-map, length-map}
 use Rattle.literal.specs.declared.Literal.{Literal}
-use Rattle.splitting.specs.Cells.{Holds, Unset, Fails, codes, literal}
-use Rattle.splitting.specs.Trails.{Kept, Assumed, Contrary}
+use Rattle.splitting.specs.Cells.{Holds, codes, literal, InTable, Within}
+use Rattle.splitting.specs.Trails.{Kept, Assumed, Contrary, Good, Models, True, Refutes}
 use Rattle.splitting.proofs.Tables.{at-set}
 
 pub code-is : (ls : List Literal) (i r : ℕ) → i < length ls → r ≡ getD ls i (literal 0) .code → getD (codes ls) i 0 ≡ r
@@ -66,3 +66,36 @@ pub assumed-as : (assumed : List ℕ) (i : ℕ) (value value′ trail trail′ :
 assumed-as assumed i value value′ trail trail′ n n′ p q r both =
     let P : List ℕ → List ℕ → ℕ → Type 0 = λ v t m. Kept v t m × Assumed assumed t m i in
     subst (λ (m : ℕ). P value′ trail′ m) (sym r) (subst (λ (t : List ℕ). P value′ t n) (sym q) (subst (λ (v : List ℕ). P v trail n) (sym p) both))
+
+-- contrary assumptions have no model
+pub contrary-refutes : (cells assumed : List ℕ) → Contrary assumed → Refutes cells assumed
+contrary-refutes cells assumed w m d given =
+    let j = w .0 in
+    let k = w .1 .0 in
+    let x = given j (w .1 .1 .0) in
+    let y = given k (w .1 .1 .1 .0) in
+    let e : m (getD assumed j 0 / 2) ≡ m (getD assumed k 0 / 2) = ap m (w .1 .1 .1 .1 .0) in
+    w .1 .1 .1 .1 .1 (omega (arith, x, y, e, w .1 .1 .1 .1 .0))
+
+-- the trail's first places for the assumptions
+pub refutes-trail : (cells assumed trail : List ℕ) (n : ℕ) → Assumed assumed trail n (length assumed)
+    → ((m : ℕ → ℕ) → Models cells m → ((j : ℕ) → j < n → True m (getD trail j 0)) → ⊥) → Refutes cells assumed
+refutes-trail cells assumed trail n a none m d given =
+    none m d (λ j h. let w = a .only j h in let P : ℕ → Type 0 = λ l. True m l in subst P (sym (w .1 .1)) (given (w .0) (w .1 .0)))
+
+pub holds-assumed : (assumed trail value : List ℕ) (n : ℕ) → Assumed assumed trail n (length assumed)
+    → ((j : ℕ) → j < n → Holds value (getD trail j 0)) → (k : ℕ) → k < length assumed → Holds value (getD assumed k 0)
+holds-assumed assumed trail value n a h k b =
+    let w = a .each k b in let P : ℕ → Type 0 = λ l. Holds value l in subst P (w .1 .1) (h (w .0) (w .1 .0))
+
+-- a trail of assumptions alone
+pub good-assumed : (cells value trail reason : List ℕ) (n : ℕ) → Kept value trail n → length reason ≡ length trail → Good cells value trail reason n n
+good-assumed cells value trail reason n k s = record {
+  kept = k;
+  follows = λ i a b. absurd (omega arith);
+  fronts = λ i a b. absurd (omega arith);
+  sizes = s;
+  based = omega arith }
+
+pub within-table : (c : List ℕ) (V size : ℕ) → V ≤ size - 1 → Within c V → InTable c size
+within-table c V size h w k b = omega (arith, w k b .0, w k b .1)

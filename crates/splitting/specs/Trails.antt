@@ -119,3 +119,7 @@ pub record Assumed (assumed trail : List ℕ) (n count : ℕ) : Type 0 where
 abbrev pub Contrary : List ℕ → Type 0
 Contrary assumed =
     (j : ℕ) × ((k : ℕ) × ((j < length assumed) × ((k < length assumed) × ((getD assumed j 0 / 2 ≡ getD assumed k 0 / 2) × (getD assumed j 0 ≡ getD assumed k 0 → ⊥)))))
+
+-- no model of the clauses makes every assumption true
+abbrev pub Refutes : List ℕ → List ℕ → Type 0
+Refutes cells assumed = (m : ℕ → ℕ) → Models cells m → ((k : ℕ) → k < length assumed → True m (getD assumed k 0)) → ⊥

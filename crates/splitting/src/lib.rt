@@ -6,5 +6,6 @@ pub mod memory;
 pub mod propagate;
 pub mod search;
 pub mod sizes;
+pub mod solve;
 pub mod store;
 pub mod trail;
