@@ -29,11 +29,13 @@ assumed-push assumed trail trail′ n i l e h s a =
     let Each : ℕ → Type 0 = λ k. (t : ℕ) × ((t < n + 1) × (getD (set trail n l) t 0 ≡ getD assumed k 0)) in
     subst P (sym e) (record {
       each = below-more Each i
-        (λ k b. let w = a .each k b in (w .0, (omega (arith, w .1 .0), getD-set-other trail n (w .0) l 0 (λ q. omega (arith, w .1 .0)) ∙ w .1 .1)))
-        (n, (omega arith, getD-set-same trail n l 0 h ∙ sym s));
+          (λ k b. let w = a .each k b in (w .0, (omega (arith, w .1 .0), getD-set-other trail n (w .0) l 0 (λ q. omega (arith, w .1 .0)) ∙ w .1 .1)))
+          (n, (omega arith, getD-set-same trail n l 0 h ∙ sym s));
       only = λ t b. elim (at-set trail n l t h) [
-          inl q ↦ (i, (omega arith, q .1 ∙ sym s))
-        | inr q ↦ (let w = a .only t (omega (arith, q .0)) in (w .0, (omega (arith, w .1 .0), q .1 ∙ w .1 .1))) ] })
+        | inl q ↦ (i, (omega arith, q .1 ∙ sym s))
+        | inr q ↦ (let w = a .only t (omega (arith, q .0)) in (w .0, (omega (arith, w .1 .0), q .1 ∙ w .1 .1)))
+      ];
+    })
 
 -- the place of a literal that has a value
 placed : (value trail : List ℕ) (n l : ℕ) → Kept value trail n → 1 ≤ getD value (l / 2) 0 → (t : ℕ) × ((t < n) × ((getD trail t 0 / 2 ≡ l / 2) × (getD value (l / 2) 0 ≡ 1 + getD trail t 0 % 2)))
@@ -49,17 +51,30 @@ assumed-again assumed value trail n i l k h s a =
     let Each : ℕ → Type 0 = λ j. (t : ℕ) × ((t < n) × (getD trail t 0 ≡ getD assumed j 0)) in
     record {
       each = below-more Each i (a .each) (w .0, (w .1 .0, omega (arith, w .1 .1 .0, w .1 .1 .1)));
-      only = λ t b. let u = a .only t b in (u .0, (omega (arith, u .1 .0), u .1 .1)) }
+      only = λ t b. let u = a .only t b in (u .0, (omega (arith, u .1 .0), u .1 .1));
+    }
 
 -- it is false
 pub contrary : (assumed value trail : List ℕ) (n i l : ℕ) → Kept value trail n → (getD value (l / 2) 0 ≡ 0 → ⊥) → (getD value (l / 2) 0 ≡ 1 + l % 2 → ⊥)
     → getD assumed i 0 ≡ l → i < length assumed → Assumed assumed trail n i → Contrary assumed
 contrary assumed value trail n i l k z f s h a =
     let w = placed value trail n l k (omega (arith, z)) in
-    let u = a .only (w .0) (w .1 .0) in
-    (u .0, (i, (omega (arith, u .1 .0), (h,
-      (ap (λ x. x / 2) (sym (u .1 .1)) ∙ w .1 .1 .0 ∙ ap (λ x. x / 2) (sym s),
-        λ q. f (w .1 .1 .1 ∙ ap (λ x. 1 + x % 2) (u .1 .1 ∙ q ∙ s)))))))
+    let u = a .only (w .0) (w .1 .0) in (
+      u .0,
+      (
+        i,
+        (
+          omega (arith, u .1 .0),
+          (
+            h,
+            (
+              ap (λ x. x / 2) (sym (u .1 .1)) ∙ w .1 .1 .0 ∙ ap (λ x. x / 2) (sym s),
+              λ q. f (w .1 .1 .1 ∙ ap (λ x. 1 + x % 2) (u .1 .1 ∙ q ∙ s)),
+            ),
+          ),
+        ),
+      ),
+    )
 
 pub assumed-as : (assumed : List ℕ) (i : ℕ) (value value′ trail trail′ : List ℕ) (n n′ : ℕ) → value′ ≡ value → trail′ ≡ trail → n′ ≡ n
     → Kept value trail n × Assumed assumed trail n i → Kept value′ trail′ n′ × Assumed assumed trail′ n′ i
@@ -95,7 +110,8 @@ good-assumed cells value trail reason n k s = record {
   follows = λ i a b. absurd (omega arith);
   fronts = λ i a b. absurd (omega arith);
   sizes = s;
-  based = omega arith }
+  based = omega arith;
+}
 
 pub within-table : (c : List ℕ) (V size : ℕ) → V ≤ size - 1 → Within c V → InTable c size
 within-table c V size h w k b = omega (arith, w k b .0, w k b .1)

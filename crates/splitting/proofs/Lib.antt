@@ -5,3 +5,6 @@ pub mod Entails
 pub mod Sweeps
 pub mod Givens
 pub mod Codes
+pub mod Publics
+pub mod Refusals
+pub mod Memories

@@ -31,7 +31,8 @@ stepped cs cells p j (c ∷ ds) e s h =
       more = lt;
       clause = cc;
       fits = omega (arith, length-drop (p + 1) cells, ap length rest, length-append c (flat ds));
-      next = cc }
+      next = cc;
+    }
 
 pub step : (cells : List ℕ) (p j : ℕ) → Starts cells p j → p < length cells → Stepped (clauses cells) cells p j
 step cells p j s h = stepped (clauses cells) cells p j (drop j (clauses cells)) refl s h
@@ -55,7 +56,8 @@ part-reads cells p j s h =
     record {
       clause = ap (λ x. take x (drop (p + 1) cells)) (cut p (getD cells p 0)) ∙ w .clause;
       below = w .more;
-      next = rw n (w .next) }
+      next = rw n (w .next);
+    }
 
 pub ended : (cells : List ℕ) (p j : ℕ) → Starts cells p j → length cells ≤ p → length (clauses cells) ≤ j
 ended cells p j s h =

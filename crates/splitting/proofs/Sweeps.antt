@@ -28,18 +28,22 @@ pub front-past : (cells value : List ℕ) (front p next front′ : ℕ) (c : Lis
     → front′ ≡ cond (eqb front p) next front → Front cells value front → Front cells value front′
 front-past cells value front p next front′ c reads n-is met e f =
     elim (cases-eq front p) [
-        inl q ↦
+      | inl q ↦
           (let S : ℕ → Type 0 = λ x. Starts cells x (f .number) in
           let r = reads (f .number) (subst S q (f .starts)) in
           let is : front′ ≡ p + 1 + length c = e ∙ cond-true _ _ _ (eq-eqb front p q) ∙ n-is in
           let P : List ℕ → Type 0 = λ x. Met value x in
           let T : ℕ → Type 0 = λ x. Starts cells x (f .number + 1) in
-          record { number = f .number + 1; starts = subst T (sym is) (r .next);
-            met = below-more (λ (i : ℕ). Met value (getD (clauses cells) i [])) (f .number) (f .met) (subst P (r .clause) met) })
+          record {
+            number = f .number + 1;
+            starts = subst T (sym is) (r .next);
+            met = below-more (λ (i : ℕ). Met value (getD (clauses cells) i [])) (f .number) (f .met) (subst P (r .clause) met);
+          })
       | inr q ↦
           (let is : front′ ≡ front = e ∙ cond-false _ _ _ (ne-eqb front p q) in
           let P : ℕ → Type 0 = λ x. Front cells value x in
-          subst P (sym is) f) ]
+          subst P (sym is) f)
+    ]
 
 pub passing-past : (s : Pass) (value : List ℕ) (front p next front′ : ℕ) → front′ ≡ cond (eqb front p) next front
     → Passing s value front p → Passing s value front′ next
@@ -63,8 +67,11 @@ met-end cells value front h f j b = f .met j (omega (arith, ended cells front (f
 -- a literal more is true
 pub front-push : (cells value value′ : List ℕ) (l p : ℕ) → Unset value l → value′ ≡ set value (l / 2) (1 + l % 2) → Front cells value p → Front cells value′ p
 front-push cells value value′ l p u e f =
-    record { number = f .number; starts = f .starts;
-      met = λ i h. let w = f .met i h in (w .0, (w .1 .0, holds-push value value′ l (getD (getD (clauses cells) i []) (w .0) 0) u e (w .1 .1))) }
+    record {
+      number = f .number;
+      starts = f .starts;
+      met = λ i h. let w = f .met i h in (w .0, (w .1 .0, holds-push value value′ l (getD (getD (clauses cells) i []) (w .0) 0) u e (w .1 .1)));
+    }
 
 pub forced-met : (value value′ c : List ℕ) (l : ℕ) → Forced c value (length c) l → l / 2 < length value → value′ ≡ set value (l / 2) (1 + l % 2) → Met value′ c
 forced-met value value′ c l f t e =
@@ -115,5 +122,6 @@ pub front-first : (cells trail : List ℕ) (n p why : ℕ) → flat (clauses cel
 front-first cells trail n p why coded e f =
     let P : ℕ → Type 0 = λ x. FrontBy cells trail n x in
     elim e [
-        inl q ↦ subst P (sym q) f
-      | inr q ↦ subst P (sym q) (record { number = 0; starts = sym coded; met = λ i h. absurd (omega arith) }) ]
+      | inl q ↦ subst P (sym q) f
+      | inr q ↦ subst P (sym q) (record { number = 0; starts = sym coded; met = λ i h. absurd (omega arith) })
+    ]

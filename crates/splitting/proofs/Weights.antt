@@ -53,7 +53,7 @@ pub less-more : (reason reason′ : List ℕ) (n x : ℕ) → n < length reason 
 less-more reason reason′ n x h e =
     let q : length reason ≡ length (take n reason) + (length reason - n) = omega (arith, length-take-le n reason (omega arith)) in
     let w : weight (length reason) (take n reason ++ x ∷ []) < weight (length reason) (take n reason ++ [])
-          = weight-front (take n reason) (x ∷ []) [] (length reason) (length reason - n) q (add-place (length reason - n) x (omega arith)) in
+    = weight-front (take n reason) (x ∷ []) [] (length reason) (length reason - n) q (add-place (length reason - n) x (omega arith)) in
     let z : left (set reason n x) (n + 1) < left reason n = simp (length-set, take-more-set reason n x h) (simp append-nil at w) in
     let P : List ℕ → Type 0 = λ y. left y (n + 1) < left reason n in
     subst P (sym e) z
@@ -74,8 +74,8 @@ less-closed reason reason′ i n x a b o s e =
     let q : length reason ≡ length (take i reason) + (length reason - i) = omega (arith, length-take-le i reason (omega arith)) in
     let rest = drop (i + 1) (take n reason) in
     let w : weight (length reason) (take i reason ++ x ∷ []) < weight (length reason) (take i reason ++ getD reason i 0 ∷ rest)
-          = weight-front (take i reason) (x ∷ []) (getD reason i 0 ∷ rest) (length reason) (length reason - i) q
-              (close-place (length reason - i) (getD reason i 0) x rest o s) in
+    = weight-front (take i reason) (x ∷ []) (getD reason i 0 ∷ rest) (length reason) (length reason - i) q
+    (close-place (length reason - i) (getD reason i 0) x rest o s) in
     let P : List ℕ → Type 0 = λ y. weight (length reason) (take i reason ++ x ∷ []) < weight (length reason) y in
     let z : weight (length reason) (take i reason ++ x ∷ []) < weight (length reason) (take n reason) = subst P (sym (split-at reason i n a b)) w in
     let y : left (set reason i x) (i + 1) < left reason n = simp (length-set, take-more-set reason i x h) z in

@@ -4,3 +4,4 @@ pub mod Trails
 pub mod States
 pub mod Passes
 pub mod Held
+pub mod Written

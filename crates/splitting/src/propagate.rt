@@ -91,11 +91,23 @@ pub fn propagate(
     'sweep: loop {
         if at >= cells.len() {
             match pass {
-                Pass::Clean => return Spread { n, front, end: End::Done },
-                Pass::Open(literal) => return Spread { n, front, end: End::Choose(literal) },
+                Pass::Clean => return Spread {
+                    n,
+                    front,
+                    end: End::Done,
+                },
+                Pass::Open(literal) => return Spread {
+                    n,
+                    front,
+                    end: End::Choose(literal),
+                },
                 Pass::Changed => {
                     if front >= cells.len() {
-                        return Spread { n, front, end: End::Done };
+                        return Spread {
+                            n,
+                            front,
+                            end: End::Done,
+                        };
                     }
                     at = front;
                     pass = Pass::Clean;
@@ -107,7 +119,11 @@ pub fn propagate(
             match clause_state(clause, value) {
                 State::Satisfied => front = past(front, at, next),
                 State::Open(literal) => pass = pass.with_open(literal),
-                State::Conflict => return Spread { n, front, end: End::Stuck },
+                State::Conflict => return Spread {
+                    n,
+                    front,
+                    end: End::Stuck,
+                },
                 State::Forces(literal) => {
                     push(value, trail, reason, n, literal, 0);
                     n += 1;

@@ -22,7 +22,11 @@ fn opening(front: usize) -> u32
     ensures odd { λ r. ⌜ r % 2 ≡ 1 ⌝ }
     ensures half { λ r. ⌜ (r / 2 ≡ front) ⊎ (r / 2 ≡ 0) ⌝ }
 {
-    if front <= LAST_FRONT { 2 * front as u32 + 1 } else { 1 }
+    if front <= LAST_FRONT {
+        2 * front as u32 + 1
+    } else {
+        1
+    }
 }
 
 // Whether some values satisfy every clause and make the literals of the trail's first `base` places true; they are then

@@ -12,7 +12,11 @@ pub fn negated(literal: u32) -> u32
     ensures variable { λ r. ⌜ r / 2 ≡ literal / 2 ⌝ }
     ensures sign { λ r. ⌜ r % 2 ≡ 1 - literal % 2 ⌝ }
 {
-    if literal % 2 == 0 { literal + 1 } else { literal - 1 }
+    if literal % 2 == 0 {
+        literal + 1
+    } else {
+        literal - 1
+    }
 }
 
 // Makes a literal true, at place `n` of the trail.

@@ -29,7 +29,8 @@ push-requires c κs =
       kept = c .loop-literal .inv .0;
       unset = c .if-is-eq0 .taken;
       inside = omega (arith, c .pre .inside i h, ap (λ x. x / 2) e, c .loop-literal .kept .value);
-      sizes = c .loop-literal .kept .reason ∙ c .pre .sizes .0 ∙ sym (c .loop-literal .kept .trail) }
+      sizes = c .loop-literal .kept .reason ∙ c .pre .sizes .0 ∙ sym (c .loop-literal .kept .trail);
+    }
 
 pub returns-then-is-code : need.returns-then-is-code
 returns-then-is-code c =
@@ -44,9 +45,12 @@ loop-literal-again c =
     let ls = c .args .assumed .now in
     let e : getD (codes ls) i 0 ≡ c .from-code .result = code-is ls i (c .from-code .result) (c .loop-literal-test .taken) (c .from-code .ensures) in
     elim (c .if-is-eq0 .came) [
-        then-is-eq0 w ↦ assumed-as (codes ls) (i + 1) (w .push .last .value) (c .if-is-eq0 .value) (w .push .last .trail) (c .if-is-eq0 .trail) (c .loop-literal .n + 1) (c .if-is-eq0 .n) (w .value-is) (w .trail-is) (w .n-is)
-          (w .push .ensures .kept,
-            assumed-push (codes ls) (c .loop-literal .trail) (w .push .last .trail) (c .loop-literal .n) i (c .from-code .result) (w .push .ensures .trail) (w .push .ensures .bound) e (c .loop-literal .inv .1))
-      | else-is-eq0·else-is-code w ↦ assumed-as (codes ls) (i + 1) (c .loop-literal .value) (c .if-is-eq0 .value) (c .loop-literal .trail) (c .if-is-eq0 .trail) (c .loop-literal .n) (c .if-is-eq0 .n) (w .value-is) (w .trail-is) (w .n-is)
-          (c .loop-literal .inv .0,
-            assumed-again (codes ls) (c .loop-literal .value) (c .loop-literal .trail) (c .loop-literal .n) i (c .from-code .result) (c .loop-literal .inv .0) (w .if-is-code .left) e (c .loop-literal .inv .1)) ]
+      | then-is-eq0 w ↦ assumed-as (codes ls) (i + 1) (w .push .last .value) (c .if-is-eq0 .value) (w .push .last .trail) (c .if-is-eq0 .trail) (c .loop-literal .n + 1) (c .if-is-eq0 .n) (w .value-is) (w .trail-is) (w .n-is) (
+        w .push .ensures .kept,
+        assumed-push (codes ls) (c .loop-literal .trail) (w .push .last .trail) (c .loop-literal .n) i (c .from-code .result) (w .push .ensures .trail) (w .push .ensures .bound) e (c .loop-literal .inv .1),
+      )
+      | else-is-eq0·else-is-code w ↦ assumed-as (codes ls) (i + 1) (c .loop-literal .value) (c .if-is-eq0 .value) (c .loop-literal .trail) (c .if-is-eq0 .trail) (c .loop-literal .n) (c .if-is-eq0 .n) (w .value-is) (w .trail-is) (w .n-is) (
+        c .loop-literal .inv .0,
+        assumed-again (codes ls) (c .loop-literal .value) (c .loop-literal .trail) (c .loop-literal .n) i (c .from-code .result) (c .loop-literal .inv .0) (w .if-is-code .left) e (c .loop-literal .inv .1),
+      )
+    ]

@@ -11,4 +11,5 @@ returns c =
     let s = step (c .args .cells .now) (c .args .at) (c .pre .starts .number) (c .pre .starts .starts) (c .pre .inside) in
     record {
       value = λ j h. part-reads (c .args .cells .now) (c .args .at) j h (c .pre .inside);
-      bound = omega (arith, part-length (c .args .cells .now) (c .args .at) (s .fits), s .fits) }
+      bound = omega (arith, part-length (c .args .cells .now) (c .args .at) (s .fits), s .fits);
+    }

@@ -8,12 +8,12 @@ use Rattle.splitting.proofs.propagate.propagate.Given as given
 
 abbrev pub Inv-sweep : given.InvT-sweep
 Inv-sweep l = Good (l .cells) (l .value) (l .trail) (l .reason) (l .base) (l .n)
-  × Front (l .cells) (l .value) (l .front)
-  × At (l .cells) (l .at)
-  × Passing (l .pass) (l .value) (l .front) (l .at)
-  × (l .entry .n ≤ l .n)
-  × ((j : ℕ) → j < l .entry .n → getD (l .trail) j 0 ≡ getD (l .entry .trail) j 0)
-  × (left (l .reason) (l .n) ≤ left (l .entry .reason) (l .entry .n))
+    × Front (l .cells) (l .value) (l .front)
+    × At (l .cells) (l .at)
+    × Passing (l .pass) (l .value) (l .front) (l .at)
+    × (l .entry .n ≤ l .n)
+    × ((j : ℕ) → j < l .entry .n → getD (l .trail) j 0 ≡ getD (l .entry .trail) j 0)
+    × (left (l .reason) (l .n) ≤ left (l .entry .reason) (l .entry .n))
 
 abbrev pub μ-sweep : given.MeasureT-sweep
 μ-sweep l = left (l .reason) (l .n) * (2 * (length (l .cells) + 1)) + (due (l .pass) * (length (l .cells) + 1) + (length (l .cells) - l .at))

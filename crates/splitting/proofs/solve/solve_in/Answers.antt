@@ -24,7 +24,8 @@ search-requires c κs =
     record {
       whole = subst P (from-start (c .args .used)) (subst Q size (c .pre .whole));
       good = good-assumed _ (c .assume .last .value) (c .assume .last .trail) (c .assume .last .reason) (c .in-Some .base) (c .in-Some .ensures tt .0)
-        (omega (arith, c .assume .kept .trail, c .assume .kept .reason)) }
+          (omega (arith, c .assume .kept .trail, c .assume .kept .reason));
+    }
 
 pub returns-in-None : need.returns-in-None
 returns-in-None c = record {
@@ -33,7 +34,8 @@ returns-in-None c = record {
   reason = omega (arith, c .assume .kept .reason);
   met = λ e. absurd (false≢true e);
   granted = λ e. absurd (false≢true e);
-  none = λ e. contrary-refutes (take (c .args .used) (now (c .args .cells .now .numbers))) (codes (c .args .assumed .now)) (c .in-None .ensures tt) }
+  none = λ e. contrary-refutes (take (c .args .used) (now (c .args .cells .now .numbers))) (codes (c .args .assumed .now)) (c .in-None .ensures tt);
+}
 
 pub returns-in-Some : need.returns-in-Some
 returns-in-Some c =
@@ -50,4 +52,5 @@ returns-in-Some c =
       met = λ e. subst P (sym (from-start (c .args .used))) (c .search .ensures .met e);
       granted = λ e k h. holds-assumed (codes ls) (c .assume .last .trail) (c .search .last .value) (c .in-Some .base) a (c .search .ensures .held e) k (omega (arith, length-codes ls));
       none = λ e. refutes-trail (take (c .args .used) cells) (codes ls) (c .assume .last .trail) (c .in-Some .base) a
-        (subst R (sym (from-start (c .args .used))) (c .search .ensures .none e)) }
+          (subst R (sym (from-start (c .args .used))) (c .search .ensures .none e));
+    }

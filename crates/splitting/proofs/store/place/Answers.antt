@@ -10,9 +10,11 @@ returns-else-passed-number c =
     let e : c .loop-at .passed ≡ c .args .number = omega arith in
     record {
       within = c .loop-at .inv .0;
-      front = front-of (c .args .cells .now) (c .loop-at .at) (c .loop-at .passed) (c .pre) (c .loop-at .inv .2) ∙ ap (λ x. flat (take x (clauses (c .args .cells .now)))) e }
+      front = front-of (c .args .cells .now) (c .loop-at .at) (c .loop-at .passed) (c .pre) (c .loop-at .inv .2) ∙ ap (λ x. flat (take x (clauses (c .args .cells .now)))) e;
+    }
 
 pub returns-after-loop-at : need.returns-after-loop-at
 returns-after-loop-at c = record {
   within = c .loop-at .inv .0;
-  front = front-all (c .args .cells .now) (c .loop-at .at) (c .loop-at .passed) (c .args .number) (c .pre) (c .loop-at .inv .2) (omega arith) (c .loop-at .inv .1) }
+  front = front-all (c .args .cells .now) (c .loop-at .at) (c .loop-at .passed) (c .args .number) (c .pre) (c .loop-at .inv .2) (omega arith) (c .loop-at .inv .1);
+}

@@ -19,12 +19,15 @@ returns-then-reason-i-eq1 c =
       after = λ j a b. c .loop-i .inv .2 j (omega arith) b;
       kept = kept-down (c .loop-i .value) (c .args .trail .now) (c .loop-i .i) (c .loop-i .inv .1) (omega arith);
       unset = getD-set-same (c .loop-i .value) (getD (c .args .trail .now) (c .loop-i .i - 1) 0 / 2) 0 0 ins;
-      inside = simp length-set ins }
+      inside = simp length-set ins;
+    }
 
 pub loop-i-again : need.loop-i-again
-loop-i-again c =
-    (omega arith,
-      kept-down (c .loop-i .value) (c .args .trail .now) (c .loop-i .i) (c .loop-i .inv .1) (omega arith),
-      λ j a b. elim (cases-eq j (c .loop-i .i - 1)) [
-          inl e ↦ (ap (λ x. getD (c .args .reason .now) x 0 % 2) e ∙ omega arith)
-        | inr ne ↦ c .loop-i .inv .2 j (omega (arith, ne)) b ])
+loop-i-again c = (
+  omega arith,
+  kept-down (c .loop-i .value) (c .args .trail .now) (c .loop-i .i) (c .loop-i .inv .1) (omega arith),
+  λ j a b. elim (cases-eq j (c .loop-i .i - 1)) [
+    | inl e ↦ (ap (λ x. getD (c .args .reason .now) x 0 % 2) e ∙ omega arith)
+    | inr ne ↦ c .loop-i .inv .2 j (omega (arith, ne)) b
+  ],
+)

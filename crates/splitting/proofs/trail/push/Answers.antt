@@ -15,4 +15,5 @@ returns c = record {
   trail = refl;
   reason = refl;
   kept = kept-push (c .args .value .now) (c .args .trail .now) (c .args .n) (c .args .literal) (c .pre .kept) (c .pre .unset) (c .pre .inside);
-  bound = push-room (c .args .value .now) (c .args .trail .now) (c .args .n) (c .args .literal) (c .pre .kept) (c .pre .unset) (c .pre .inside) }
+  bound = push-room (c .args .value .now) (c .args .trail .now) (c .args .n) (c .args .literal) (c .pre .kept) (c .pre .unset) (c .pre .inside);
+}

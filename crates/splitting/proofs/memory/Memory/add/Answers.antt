@@ -37,7 +37,9 @@ returns c =
         counted = omega (arith, f .counted, w .count);
         values = f .values;
         trails = f .trails;
-        reasons = f .reasons };
+        reasons = f .reasons;
+      };
       after = ap (map literals) (w .after) ∙ map-push literals (clauses old) (codes ls) ∙ ap (λ (x : Clause). map literals (clauses old) ++ (x ∷ [])) (literals-codes ls);
       same-variables = refl;
-      same-cells = c .write-in .ensures .same }
+      same-cells = c .write-in .ensures .same;
+    }

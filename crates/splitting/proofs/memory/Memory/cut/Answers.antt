@@ -24,7 +24,9 @@ returns c =
         counted = sym (w .count);
         values = f .values;
         trails = f .trails;
-        reasons = f .reasons };
+        reasons = f .reasons;
+      };
       after = ap (map literals) (w .after) ∙ sym (take-map literals (c .args .kept) (clauses old));
       same-variables = refl;
-      same-cells = refl }
+      same-cells = refl;
+    }

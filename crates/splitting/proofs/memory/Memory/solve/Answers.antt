@@ -15,7 +15,9 @@ solve-in-requires c κs =
       within = f .within;
       whole = record {
         coded = f .coded;
-        table = λ j h. within-table (getD (clauses (usedCells m)) j []) (m .variables) size (f .values) (f .ranges j h) };
+        table = λ j h. within-table (getD (clauses (usedCells m)) j []) (m .variables) size (f .values) (f .ranges j h);
+      };
       inside = within-table (codes (c .args .assumed .now)) (m .variables) size (f .values) (c .pre .inside);
       trails = f .trails;
-      reasons = f .reasons }
+      reasons = f .reasons;
+    }
