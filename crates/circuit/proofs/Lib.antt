@@ -1,0 +1,12 @@
+pub mod Bits
+pub mod Sides
+pub mod Soundness
+pub mod Tables
+pub mod Numbers
+pub mod Freshness
+pub mod Places
+pub mod Membership
+pub mod Stays
+pub mod Agreement
+pub mod Unique
+pub mod Answered

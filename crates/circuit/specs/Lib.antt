@@ -1,3 +1,5 @@
 pub mod Faults
 pub mod Parts
+pub mod Settled
 pub mod Sound
+pub mod Step

@@ -5,9 +5,13 @@ ghost use Rattle.circuit.specs.Parts.{blankGate, blankInput, blankLatch, blank
 use literal::Literal;
 
 pub const MAX_VARIABLE: u16 = 4096;
+
 pub const MAX_INPUTS: usize = 24;
+
 pub const MAX_SIDE: usize = 12;
+
 pub const MAX_LATCHES: usize = 32;
+
 pub const MAX_GATES: usize = 2048;
 
 // An AND gate: the output is true where both operands are.
@@ -51,15 +55,25 @@ pub struct Record {
 }
 
 impl Gate {
-    pub const BLANK: Gate = Gate { output: Literal::FALSE, left: Literal::FALSE, right: Literal::FALSE };
+    pub const BLANK: Gate = Gate {
+        output: Literal::FALSE,
+        left: Literal::FALSE,
+        right: Literal::FALSE,
+    };
 }
 
 impl Input {
-    pub const BLANK: Input = Input { literal: Literal::FALSE, side: Side::Event };
+    pub const BLANK: Input = Input {
+        literal: Literal::FALSE,
+        side: Side::Event,
+    };
 }
 
 impl Latch {
-    pub const BLANK: Latch = Latch { literal: Literal::FALSE, next: Literal::FALSE };
+    pub const BLANK: Latch = Latch {
+        literal: Literal::FALSE,
+        next: Literal::FALSE,
+    };
 }
 
 impl Record {

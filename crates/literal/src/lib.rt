@@ -1,7 +1,8 @@
 // A literal of a circuit or of a clause.
 
 ghost use mathlib.Core.Path.{_≡_};
-ghost use Rattle.literal.specs.Truth.{variableOf, negated, negationOf, truth, valuesOf};
+ghost use mathlib.Core.Bool.{not};
+ghost use Rattle.literal.specs.Truth.{Values, variableOf, negated, negationOf, truth, valuesOf};
 
 // Code 2v is variable v, and 2v + 1 its negation. Variable 0 is false, so code 0 is false and code 1 is true.
 #[derive(Clone, Copy, PartialEq, Eq, Debug)]
@@ -11,6 +12,7 @@ pub struct Literal {
 
 impl Literal {
     pub const FALSE: Literal = Literal { code: 0 };
+
     pub const TRUE: Literal = Literal { code: 1 };
 
     pub fn variable(self) -> usize
@@ -26,9 +28,14 @@ impl Literal {
     }
 
     pub fn negation(self) -> Literal
-        ensures { λ r. ⌜ r ≡ negationOf self ⌝ }
+        ensures value { λ r. ⌜ r ≡ negationOf self ⌝ }
+        ensures flips { λ r. ⌜ ((v : Values) → truth v r ≡ not (truth v self)) ⌝ }
     {
-        let code = if self.is_negated() { self.code - 1 } else { self.code + 1 };
+        let code = if self.is_negated() {
+            self.code - 1
+        } else {
+            self.code + 1
+        };
         Literal { code }
     }
 

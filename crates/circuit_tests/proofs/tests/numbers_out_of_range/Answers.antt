@@ -1,0 +1,5 @@
+use Rattle.circuit_tests.proofs.Small.{one-latch-sound}
+use Rattle.circuit_tests.proofs.tests.numbers_out_of_range.Needs as need
+
+pub join-model-requires : need.join-model-requires
+join-model-requires c κs = one-latch-sound (c .one-latch-record .result) (c .one-gate-gates .result) (c .one-latch-record .ensures) (c .one-gate-gates .ensures)
