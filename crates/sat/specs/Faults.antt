@@ -53,3 +53,8 @@ unfoldable pub narrowFault : ℕ → List Literal → ℕ → ℕ → ℕ → Op
 narrowFault V assumed first values marks =
     literalsFault V assumed
     (cond (buffersFit V assumed values marks) (cond (leb first (length assumed)) None (Some FirstExceeded)) (Some BufferShort))
+
+-- whether each clause is in range
+abbrev pub allInRange : ℕ → List Clause → Bool
+allInRange V [] = true
+allInRange V (c ∷ cs) = inRange V c && allInRange V cs

@@ -1,3 +1,5 @@
 pub mod Clauses
 pub mod Faults
 pub mod Answers
+pub mod Cells
+pub mod Held
