@@ -1,2 +1,3 @@
 pub mod Splits
 pub mod Spellings
+pub mod Readings

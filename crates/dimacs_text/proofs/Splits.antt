@@ -1,5 +1,5 @@
 -- A text taken apart into lines and words.
-use mathlib.Core.Path.{_≡_, refl, sym, ap, _∙_}
+use mathlib.Core.Path.{_≡_, refl, sym, ap, subst, _∙_}
 use mathlib.Core.Bool.{Bool, true, false, not, cond}
 use mathlib.Core.List.{List, [], _∷_, _++_}
 use Prim.Native.Nat.{ℕ, zero, suc, _+_, _-_, _≤_, _<_}
@@ -11,7 +11,9 @@ use Rattle.std.proofs.shelf.Lists.{length-drop, getD-drop, drop-all}
 use Rattle.std.proofs.shelf.Tests.{cond-true, cond-false, cases-lt, false≢true}
 use Rattle.std.specs.declared.option.Option.{Option}
 use Rattle.std.specs.declared.option.Option.the-variants.{Some, None}
-use Rattle.text.specs.Cut.{Parts, cutAt, onto}
+use denote.Ref.{RefT, now}
+use Rattle.std.specs.Options.{Cases}
+use Rattle.text.specs.Cut.{Parts, cutAt, onto, partsOf}
 use Rattle.dimacs_text.specs.Words.{blank, extend, inWord, words, lines}
 
 -- blanks before a word
@@ -67,3 +69,8 @@ lined-on b bs false (Some p) e w = (cond-false _ _ _ e ∙ ap (extend b) (w .0),
 pub lined : (bs : List ℕ) → Lined bs (cutAt 10 bs)
 lined [] = refl
 lined (b ∷ bs) = lined-on b bs (eqb b 10) (cutAt 10 bs) refl (lined bs)
+
+pub line-of : (bs : List ℕ) (r : Option (RefT (List ℕ) × RefT (List ℕ))) → partsOf r ≡ cutAt 10 bs
+    → Cases r (lines bs ≡ bs ∷ []) (λ p. (lines bs ≡ now (p .0) ∷ lines (now (p .1))) × (length (now (p .1)) < length bs))
+line-of bs None e = subst (λ (x : Option Parts). Lined bs x) (sym e) (lined bs)
+line-of bs (Some p) e = subst (λ (x : Option Parts). Lined bs x) (sym e) (lined bs)

@@ -1,12 +1,15 @@
 -- The entries of a DIMACS text: literals, and 0 after each clause.
 use Prim.Native.Nat.{ℕ, _<_, _≤_}
 use mathlib.Core.Path.{_≡_}
+use mathlib.Core.Logic.{_⊎_}
 use mathlib.Core.Bool.{Bool, cond}
 use mathlib.Core.List.{List, [], _∷_, _++_}
 use Rattle.literal.specs.declared.Literal.{Literal}
 use Rattle.literal.specs.Truth.{variableOf, negated}
 use Rattle.text.specs.Number.{decimal}
 use Rattle.sat.specs.Clauses.{Clause}
+use Rattle.dimacs_text.specs.declared.fault.DimacsFault.{DimacsFault}
+use Rattle.dimacs_text.specs.declared.fault.DimacsFault.the-variants.{HeaderMissing, HeaderMalformed, EntryMalformed, ClauseUnfinished, CountWrong, MemoryShort, Refused}
 
 -- 0 is no literal of a clause: it ends one
 abbrev pub end : Literal
@@ -32,3 +35,18 @@ terminated (c ∷ cs) = c ++ end ∷ terminated cs
 -- a word that is no entry
 abbrev pub Unspelled : List ℕ → Type 0
 Unspelled w = (l : Literal) → Writable l → w ≡ spelling l → ⊥
+
+-- some word is no entry
+abbrev pub SomeUnspelled : List (List ℕ) → Type 0
+SomeUnspelled [] = ⊥
+SomeUnspelled (w ∷ ws) = Unspelled w ⊎ SomeUnspelled ws
+
+-- why entries were not read: a word is none, or memory ran out, of which nothing more is said
+abbrev pub Unread : DimacsFault → List (List ℕ) → Type 0
+Unread EntryMalformed ws = SomeUnspelled ws
+Unread MemoryShort ws = Unit {0}
+Unread HeaderMissing ws = ⊥
+Unread HeaderMalformed ws = ⊥
+Unread ClauseUnfinished ws = ⊥
+Unread CountWrong ws = ⊥
+Unread (Refused e) ws = ⊥

@@ -32,7 +32,11 @@ abbrev pub comment : List ℕ → Bool
 comment [] = false
 comment (b ∷ bs) = eqb b 99
 
+-- what a line says
+abbrev pub lineContent : List ℕ → List (List ℕ)
+lineContent l = cond (comment l) [] (words l)
+
 -- the words of lines that are no comments
 abbrev pub content : List (List ℕ) → List (List ℕ)
 content [] = []
-content (l ∷ ls) = cond (comment l) (content ls) (words l ++ content ls)
+content (l ∷ ls) = lineContent l ++ content ls

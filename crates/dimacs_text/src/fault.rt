@@ -1,7 +1,7 @@
 // Why a DIMACS text is refused.
 
 ghost use mathlib.Core.Path.{_≡_};
-ghost use Rattle.dimacs_text.specs.declared.fault.DimacsFault.the-variants.{Refused};
+ghost use Rattle.dimacs_text.specs.declared.fault.DimacsFault.the-variants.{MemoryShort, Refused};
 ghost use Rattle.dimacs_text.specs.Faults.{faultNumber};
 use sat::SolverFault;
 use sat::fault::SolverFaultDebug;
@@ -39,12 +39,16 @@ impl DimacsFault {
 }
 
 pub impl From<AllocError> for DimacsFault as FromAllocError {
+    ghost converts = { λ _ r. r ≡ MemoryShort };
+
     fn from(_error: AllocError) -> DimacsFault {
         DimacsFault::MemoryShort
     }
 }
 
 pub impl<T: Drop> From<NotStored<T>> for DimacsFault as FromNotStored {
+    ghost converts = { λ _ r. r ≡ MemoryShort };
+
     fn from(_error: NotStored<T>) -> DimacsFault {
         DimacsFault::MemoryShort
     }

@@ -1,5 +1,6 @@
 // The DIMACS form of clauses: a text is read into any solver.
 
+mod entries;
 mod entry;
 mod fault;
 mod words;

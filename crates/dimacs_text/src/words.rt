@@ -6,7 +6,8 @@ ghost use mathlib.Core.List.{[], _∷_};
 ghost use Prim.Native.Nat.{ℕ, _<_, _≤_};
 ghost use lib.ListN.{length, getD, drop};
 ghost use Rattle.std.specs.Options.{Cases as BySome};
-ghost use Rattle.dimacs_text.specs.Words.{blank, words, comment};
+ghost use Rattle.dimacs_text.specs.Words.{blank, words, lines, comment};
+use text::cut;
 
 fn is_blank(byte: u8) -> bool
     ensures { λ r. ⌜ r ≡ blank byte ⌝ }
@@ -53,6 +54,13 @@ pub fn word<'a>(bytes: &'a [u8]) -> Option<(&'a [u8], &'a [u8])>
     let (_, rest) = bytes.split_at(start);
     let end = skip_word(rest);
     Some(rest.split_at(end))
+}
+
+// The first line, and what stands after its line feed; nothing at the last line.
+pub fn line<'a>(bytes: &'a [u8]) -> Option<(&'a [u8], &'a [u8])>
+    ensures { λ r. ⌜ BySome r (lines (now (bytes .entry)) ≡ now (bytes .entry) ∷ []) (λ p. (lines (now (bytes .entry)) ≡ now (p .0) ∷ lines (now (p .1))) × (length (now (p .1)) < length (now (bytes .entry)))) ⌝ }
+{
+    cut(bytes, b'\n')
 }
 
 // Whether a line is a comment.
