@@ -74,3 +74,6 @@ pub line-of : (bs : List ℕ) (r : Option (RefT (List ℕ) × RefT (List ℕ))) 
     → Cases r (lines bs ≡ bs ∷ []) (λ p. (lines bs ≡ now (p .0) ∷ lines (now (p .1))) × (length (now (p .1)) < length bs))
 line-of bs None e = subst (λ (x : Option Parts). Lined bs x) (sym e) (lined bs)
 line-of bs (Some p) e = subst (λ (x : Option Parts). Lined bs x) (sym e) (lined bs)
+
+pub first-of : (ws : List (List ℕ)) (v w : List ℕ) (vs xs : List (List ℕ)) → ws ≡ v ∷ vs → ws ≡ w ∷ xs → v ≡ w
+first-of ws v w vs xs e f = cc

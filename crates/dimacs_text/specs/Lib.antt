@@ -3,3 +3,4 @@ pub mod Faults
 pub mod Entries
 pub mod Headers
 pub mod Texts
+pub mod Loads

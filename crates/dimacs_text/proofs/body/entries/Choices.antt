@@ -4,7 +4,7 @@ use lib.ListN.{length}
 use Rattle.std.specs.Of.Vec.{vec-items}
 use Rattle.dimacs_text.specs.Words.{content, lines}
 use Rattle.dimacs_text.specs.Entries.{spellings, SomeUnspelled}
-use Rattle.dimacs_text.proofs.entries.entries.Given as given
+use Rattle.dimacs_text.proofs.body.entries.Given as given
 
 abbrev pub Inv-loop-first : given.InvT-loop-first
 Inv-loop-first l =

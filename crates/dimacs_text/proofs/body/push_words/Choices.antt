@@ -4,7 +4,7 @@ use lib.ListN.{length}
 use Rattle.std.specs.Of.Vec.{vec-items}
 use Rattle.dimacs_text.specs.Words.{words}
 use Rattle.dimacs_text.specs.Entries.{spellings, SomeUnspelled}
-use Rattle.dimacs_text.proofs.entries.push_words.Given as given
+use Rattle.dimacs_text.proofs.body.push_words.Given as given
 
 abbrev pub Inv-loop-spelled : given.InvT-loop-spelled
 Inv-loop-spelled l =

@@ -3,7 +3,7 @@ use Rattle.std.proofs.shelf.Results.{err-from-errBy}
 use Rattle.dimacs_text.specs.Words.{words}
 use Rattle.dimacs_text.specs.Entries.{SomeUnspelled}
 use Rattle.dimacs_text.proofs.Readings.{read-on, further}
-use Rattle.dimacs_text.proofs.entries.push_words.Needs as need
+use Rattle.dimacs_text.proofs.body.push_words.Needs as need
 
 pub returns-in-Break-push : need.returns-in-Break-push
 returns-in-Break-push c = let p = err-from-errBy (c .from-residual .result) (c .from-residual .ensures .1) in rw (p .1, p .2) tt

@@ -4,7 +4,7 @@ use Rattle.std.proofs.shelf.Results.{err-from-errBy}
 use Rattle.dimacs_text.specs.Words.{content, lines}
 use Rattle.dimacs_text.specs.Entries.{SomeUnspelled}
 use Rattle.dimacs_text.proofs.Readings.{line-on, line-further, line-unread, line-last}
-use Rattle.dimacs_text.proofs.entries.entries.Needs as need
+use Rattle.dimacs_text.proofs.body.entries.Needs as need
 
 pub returns-in-Break-push-line : need.returns-in-Break-push-line
 returns-in-Break-push-line c =
