@@ -4,6 +4,9 @@ mod fault;
 
 pub use fault::DimacsFault;
 pub use fault::DimacsFaultDisplay;
+pub use fault::FromAllocError;
+pub use fault::FromNotStored;
+pub use fault::FromSolverFault;
 
 // The header and the entries of a text.
 mod body;
