@@ -1,0 +1,5 @@
+pub mod Splits
+pub mod Spellings
+pub mod Readings
+pub mod Heads
+pub mod Loadings

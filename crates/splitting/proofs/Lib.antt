@@ -1,0 +1,10 @@
+pub mod Steps
+pub mod Tables
+pub mod Weights
+pub mod Entails
+pub mod Sweeps
+pub mod Givens
+pub mod Codes
+pub mod Publics
+pub mod Refusals
+pub mod Memories

@@ -1,0 +1,7 @@
+pub mod Sizes
+pub mod Cells
+pub mod Trails
+pub mod States
+pub mod Passes
+pub mod Held
+pub mod Written

@@ -1,0 +1,13 @@
+-- What a decision writes.
+use mathlib.Core.Path.{_≡_}
+use mathlib.Core.Bool.{cond}
+use mathlib.Core.List.{List}
+use Prim.Native.Nat.{ℕ, _+_, _≤_}
+use lib.Dec.{eqb}
+use lib.ListN.{getD, drop}
+
+-- the bytes of variables 1 to V are those of a table, and byte 0 is 0
+pub record Valued (value : List ℕ) (V : ℕ) (before after : List ℕ) : Type 0 where
+  pub zero : getD after 0 0 ≡ 0
+  pub bytes : (v : ℕ) → 1 ≤ v → v ≤ V → getD after v 0 ≡ cond (eqb (getD value v 0) 1) 1 0
+  pub rest : drop (V + 1) after ≡ drop (V + 1) before
