@@ -81,13 +81,13 @@ sizes-backward h n e =
     }
 
 -- the variables that a body defines, section by section
-abbrev vars₁ : Body → List ℕ
+abbrev pub vars₁ : Body → List ℕ
 vars₁ b = defined (0 ∷ []) (b .inputs)
 
-abbrev vars₂ : Body → List ℕ
+abbrev pub vars₂ : Body → List ℕ
 vars₂ b = defined (vars₁ b) (literals (b .latches))
 
-abbrev vars₃ : Body → List ℕ
+abbrev pub vars₃ : Body → List ℕ
 vars₃ b = defined (vars₂ b) (outputs (b .gates))
 
 -- a body by the rules of a model
@@ -317,7 +317,7 @@ none-malformed b ss =
     symbols (s ∷ ss) = ((λ e. let z : _≡_ {A = ℕ} 0 1 = cc in omega arith), symbols ss)
 
 -- a model's body, and soundness by it
-abbrev bodyFor : Record → List Gate → Body
+abbrev pub bodyFor : Record → List Gate → Body
 bodyFor r gs = record { inputs = inputLiterals r; latches = latchesOf r; output = r .output; gates = gatesOf r gs }
 
 source-vars : (r : Record) (gs : List Gate) → sourceVariables r ≡ vars₂ (bodyFor r gs)
@@ -326,7 +326,7 @@ source-vars r gs = defined-append (0 ∷ []) (inputLiterals r) (literals (latche
 all-vars : (r : Record) (gs : List Gate) → variables r gs ≡ vars₃ (bodyFor r gs)
 all-vars r gs = ap (λ vs. defined vs (outputs (gatesOf r gs))) (source-vars r gs)
 
-ordered-of : (r : Record) (gs : List Gate) → Soundness r gs → Ordered (r .maximum) (bodyFor r gs)
+pub ordered-of : (r : Record) (gs : List Gate) → Soundness r gs → Ordered (r .maximum) (bodyFor r gs)
 ordered-of r gs s =
     let m = r .maximum in
     let p = and-parts (allFresh m (0 ∷ []) (inputLiterals r)) _ (sym (fresh-append m (0 ∷ []) (inputLiterals r) (literals (latchesOf r))) ∙ s .fresh) in
@@ -338,7 +338,7 @@ ordered-of r gs s =
       output = sym (ap (λ vs. known vs (r .output)) (all-vars r gs)) ∙ s .outputKnown;
     }
 
-sound-from : (r : Record) (gs : List Gate) → Sizes r (length gs) → eventCount (inputsOf r) ≤ 12 → answerCount (inputsOf r) ≤ 12 → Ordered (r .maximum) (bodyFor r gs) → Blanks r gs → sound r gs ≡ true
+pub sound-from : (r : Record) (gs : List Gate) → Sizes r (length gs) → eventCount (inputsOf r) ≤ 12 → answerCount (inputsOf r) ≤ 12 → Ordered (r .maximum) (bodyFor r gs) → Blanks r gs → sound r gs ≡ true
 unfolding sound
 sound-from r gs z e a o b =
     let m = r .maximum in

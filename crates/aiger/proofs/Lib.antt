@@ -11,6 +11,8 @@ pub mod Loops
 pub mod Named
 pub mod Naming
 pub mod Records
+pub mod RoundTrip
 pub mod Sections
 pub mod Tables
 pub mod Texts
+pub mod Writing

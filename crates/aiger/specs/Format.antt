@@ -17,7 +17,7 @@ use Rattle.text.specs.Number.{decimal}
 use Rattle.text.specs.Cut.{without}
 use Rattle.aiger.specs.Advance.{controllable}
 use Rattle.std.specs.declared.result.Result.the-variants.{Ok}
-use Rattle.aiger.specs.Read.{Answered, answered}
+use Rattle.aiger.specs.Read.{Answered, answered, readOf}
 use Rattle.aiger.specs.Line.{Content, one, two, three, symbol, texts, headerText}
 use Rattle.aiger.specs.declared.line.Header.{Header}
 use Rattle.aiger.specs.declared.line.SymbolKind.{SymbolKind}
@@ -141,3 +141,7 @@ written r gs = body r gs ++ symbolTexts (answerSymbols 0 (inputsOf r))
 -- a gate table in a table of n places
 abbrev pub resized : ℕ → Record → List Gate → List Gate
 resized n r gs = gatesOf r gs ++ replicate (n - r .«gate_count») blankGate
+
+-- what is written of a model is read again as the same record and gates, in every table that is long enough
+abbrev pub RoundTrip : Record → List Gate → Type 0
+RoundTrip r gs = (n : ℕ) → r .«gate_count» ≤ n → readOf (written r gs) n ≡ answered (Ok tt) r (resized n r gs)

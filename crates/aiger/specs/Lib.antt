@@ -3,3 +3,4 @@ pub mod Faults
 pub mod Format
 pub mod Line
 pub mod Read
+pub mod Writing

@@ -1,7 +1,7 @@
-// Why a file is refused.
+// Why a file is refused, and why a model is not written.
 
 ghost use mathlib.Core.Path.{_≡_};
-ghost use Rattle.aiger.specs.Faults.{refusalOf};
+ghost use Rattle.aiger.specs.Faults.{refusalOf, writeNumber};
 use std::fmt;
 
 // A case that a line can bring has that line's number.
@@ -72,6 +72,33 @@ impl ReadFault {
 }
 
 pub impl fmt::Display for ReadFault as ReadFaultDisplay {
+    fn fmt<W: fmt::Write>(&self, f: &mut fmt::Formatter<W>) -> fmt::Result {
+        f.write_str(self.reason())
+    }
+}
+
+#[derive(Clone, Copy, PartialEq, Eq, Debug)]
+pub enum WriteFault {
+    BufferShort,
+}
+
+impl WriteFault {
+    pub fn number(self) -> u8
+        ensures { λ r. ⌜ r ≡ writeNumber self ⌝ }
+    {
+        match self {
+            WriteFault::BufferShort => 11,
+        }
+    }
+
+    fn reason(self) -> &'static str {
+        match self {
+            WriteFault::BufferShort => "the buffer is shorter than the model's text",
+        }
+    }
+}
+
+pub impl fmt::Display for WriteFault as WriteFaultDisplay {
     fn fmt<W: fmt::Write>(&self, f: &mut fmt::Formatter<W>) -> fmt::Result {
         f.write_str(self.reason())
     }

@@ -6,6 +6,7 @@ ghost use denote.Ref.{now as pointee};
 ghost use Rattle.circuit.specs.Sound.{sound};
 use crate::record::Gate;
 use crate::record::Record;
+use literal::Literal;
 
 #[derive(Clone, Copy)]
 pub struct Model<'a> {
@@ -22,5 +23,11 @@ impl<'a> Model<'a> {
         ensures same_gates { λ r. ⌜ now (r .gates) ≡ now (gates .entry) ⌝ }
     {
         Model { record, gates }
+    }
+    // The literal that is true where a step breaks a rule.
+    pub fn output(&self) -> Literal
+        ensures { λ r. ⌜ r ≡ now (now (self .entry) .«record») .output ⌝ }
+    {
+        self.record.output
     }
 }

@@ -39,9 +39,9 @@ read-value n (b ∷ bs) d h = grind (arith, tells, read-value (n * 10 + (b - 48)
 spells : Spells decimalIn
 spells = search needs
 
-same : (n : ℕ) → n ≤ 65535 → decimal n ≡ std.decimal n
+pub std-decimal : (n : ℕ) → n ≤ 65535 → decimal n ≡ std.decimal n
 unfolding decimal
-same n h = decimal-from-spells decimalIn spells 5 n (omega arith) (length-decimal-le 5 n (omega arith) (omega arith) (omega arith))
+std-decimal n h = decimal-from-spells decimalIn spells 5 n (omega arith) (length-decimal-le 5 n (omega arith) (omega arith) (omega arith))
 
 accepts : (ds : List ℕ) (n : ℕ) → 0 < length ds → (getD ds 0 0 ≡ 48 → length ds ≡ 1) → readOn 0 ds ≡ Some n → numberOf ds ≡ Some n
 unfolding numberOf
@@ -62,20 +62,20 @@ number-decimal n h =
     let v = value-decimal own n (omega arith) in
     let r : readOn 0 (std.decimal n) ≡ Some n =
     read-value 0 (std.decimal n) (digits-decimal own n (omega arith)) (omega arith) ∙ ap (λ x. Some x) v in
-    ap numberOf (same n h) ∙ accepts (std.decimal n) n (decimal-some n (omega arith)) (one-only n h) r
+    ap numberOf (std-decimal n h) ∙ accepts (std.decimal n) n (decimal-some n (omega arith)) (one-only n h) r
 
 pub decimal-number : (bs : List ℕ) (n : ℕ) → numberOf bs ≡ Some n → (decimal n ≡ bs) × (n ≤ 65535)
 decimal-number bs n e =
     let a = accepted bs n e in
     let r = read-gives 0 n bs (omega arith) (a .2) in
     let d = decimal-value own bs (r .0) (a .0) (a .1) (omega arith) in
-    (same n (r .2) ∙ ap std.decimal (sym (r .1)) ∙ d, r .2)
+    (std-decimal n (r .2) ∙ ap std.decimal (sym (r .1)) ∙ d, r .2)
 
 pub decimal-digits : (n : ℕ) → n ≤ 65535 → allDigits (decimal n) ≡ true
-decimal-digits n h = ap allDigits (same n h) ∙ digits-decimal own n (omega arith)
+decimal-digits n h = ap allDigits (std-decimal n h) ∙ digits-decimal own n (omega arith)
 
 pub decimal-long : (n : ℕ) → n ≤ 65535 → 0 < length (decimal n)
-decimal-long n h = rw (same n h) (decimal-some n (omega arith))
+decimal-long n h = rw (std-decimal n h) (decimal-some n (omega arith))
 
 pub number-spelled : (bs : List ℕ) (r : Option ℕ) → r ≡ numberOf bs → Spelled bs r
 number-spelled bs r e =

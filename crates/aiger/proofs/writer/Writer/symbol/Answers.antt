@@ -1,0 +1,10 @@
+use mathlib.Core.Path.{ap, _∙_}
+use mathlib.Core.List.{append-assoc}
+use Rattle.aiger.specs.Writing.{put}
+use Rattle.aiger.proofs.Writing.{chained}
+use Rattle.aiger.proofs.writer.Writer.symbol.Needs as need
+
+pub returns : need.returns
+returns c =
+    chained _ _ _ (chained _ _ _ (chained _ _ _ (c .byte .ensures) (c .field .ensures)) (c .bytes .ensures)) (c .field-2 .ensures)
+    ∙ ap (λ t. put t (c .args .self .now)) (simp append-assoc)

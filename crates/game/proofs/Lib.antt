@@ -1,0 +1,12 @@
+pub mod Answers
+pub mod Bits
+pub mod Covered
+pub mod Dues
+pub mod Exactness
+pub mod Examples
+pub mod Judged
+pub mod Lasting
+pub mod Loops
+pub mod Models
+pub mod Play
+pub mod Runs
