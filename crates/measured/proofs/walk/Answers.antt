@@ -19,16 +19,16 @@ pub loop-i-again : need.loop-i-again
 loop-i-again c =
     let m = c .args .model .now in
     let new : c .match-step .state ≡ nextOr (c .loop-i .state) (c .step .result) =
-      elim (c .match-step .came) [
-        in-Ok w ↦ w .state-is ∙ sym (ap (nextOr (c .loop-i .state)) (w .in-Ok .is))
+    elim (c .match-step .came) [
+      | in-Ok w ↦ w .state-is ∙ sym (ap (nextOr (c .loop-i .state)) (w .in-Ok .is))
       | in-rest w ↦ w .state-is ∙ sym (ap (nextOr (c .loop-i .state)) (w .in-rest .is))
-      ] in
+    ] in
     walk-more (m .record .now) (m .gates .now) (c .args .count) (c .loop-i .i) (c .loop-i .state) (c .match-step .state) (c .loop-i-test .taken)
     (walk-step (m .record .now) (m .gates .now) (c .loop-i .i) (c .loop-i .state) (c .match-step .state)
-      (c .power-events .result) (c .power-answers .result) (c .step .result)
-      (c .power-events .ensures .value ∙ ap (λ n. 2 ^ n) (c .event-inputs .ensures))
-      (c .power-answers .ensures .value ∙ ap (λ n. 2 ^ n) (c .answer-inputs .ensures))
-      (c .step .ensures .value) new)
+    (c .power-events .result) (c .power-answers .result) (c .step .result)
+    (c .power-events .ensures .value ∙ ap (λ n. 2 ^ n) (c .event-inputs .ensures))
+    (c .power-answers .ensures .value ∙ ap (λ n. 2 ^ n) (c .answer-inputs .ensures))
+    (c .step .ensures .value) new)
     ∙ c .loop-i .inv
 
 pub returns : need.returns
