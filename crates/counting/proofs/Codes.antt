@@ -1,10 +1,10 @@
 -- Clauses in cells: what they hold is what was put there, clause by clause.
 use mathlib.Core.Path.{_≡_, refl, sym, ap, subst, _∙_}
-use mathlib.Core.List.{List, [], _∷_, _++_, map}
+use mathlib.Core.List.{List, [], _∷_, _++_}
 use Prim.Native.Nat.{ℕ, zero, suc, _+_, _-_, _≤_, _<_}
 use native.Mathlib.Omega.{arith}
 use lib.ListN.{length, getD, take, drop, set}
-use Rattle.std.proofs.shelf.Lists.{take-at, drop-at, length-append, length-map, append-assoc, append-nil, take-more, take-more-set, take-set, take-append-drop, getD-map, take-rest, nil-from-length, getD-append-left, getD-append-add, getD-append-right, getD-past, length-drop, drop-more, take-all, length-take, take-take}
+use Rattle.std.proofs.shelf.Lists.{take-at, drop-at, length-append, length-map, append-assoc, append-nil, take-more, take-more-set, take-set, take-append-drop, getD-map, take-rest, getD-append-left, getD-append-add, getD-append-right, getD-past, length-drop, drop-more, take-all, length-take, take-take}
 use Rattle.std.proofs.shelf.Tests.{cases-lt}
 use mathlib.Core.Logic.{inl, inr}
 use Rattle.literal.specs.declared.Literal.{Literal}

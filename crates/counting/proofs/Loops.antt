@@ -35,9 +35,5 @@ pub satisfied-true : (v : Values) (cells a b : List ℕ) → Parted cells a b �
     → satisfies v (clausesIn cells) ≡ satisfies v (clausesIn b)
 satisfied-true v cells a b p t = satisfied-more v cells a b p ∙ ap (λ x. x && satisfies v (clausesIn b)) t
 
-pub satisfied-false : (v : Values) (cells a b : List ℕ) → Parted cells a b → anyTrue v (literalsOf a) ≡ false
-    → satisfies v (clausesIn cells) ≡ false
-satisfied-false v cells a b p t = satisfied-more v cells a b p ∙ ap (λ x. x && satisfies v (clausesIn b)) t
-
 pub satisfied-end : (v : Values) (cells : List ℕ) → cells ≡ [] → satisfies v (clausesIn cells) ≡ true
 satisfied-end v cells e = ap (λ x. satisfies v (clausesIn x)) e ∙ ap (satisfies v) clauses-none

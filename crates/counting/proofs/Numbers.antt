@@ -1,6 +1,6 @@
 -- Counting through the numbers meets all values.
-use mathlib.Core.Path.{_≡_, refl, sym, ap, subst, _∙_}
-use mathlib.Core.Logic.{_≢_, inl, inr}
+use mathlib.Core.Path.{_≡_, refl, sym, ap, _∙_}
+use mathlib.Core.Logic.{inl, inr}
 use mathlib.Core.List.{List}
 use mathlib.Core.Bool.{Bool, true, false, cond}
 use Prim.Native.Nat.{ℕ, zero, suc, _+_, _-_, _*_, _/_, _%_, _^_, _<_, _≤_}
@@ -9,7 +9,7 @@ use native.Mathlib.Omega.{arith}
 use lib.Dec.{eqb}
 use lib.ListN.{length, getD, set}
 use Rattle.std.proofs.shelf.Lists.{getD-set-same, getD-set-other, length-set}
-use Rattle.std.proofs.shelf.Tests.{cases-eq, both-ways, eq-eqb}
+use Rattle.std.proofs.shelf.Tests.{cases-eq}
 use Rattle.literal.specs.declared.Literal.{Literal}
 use Rattle.literal.specs.Truth.{Values, valuesOf}
 use Rattle.sat.specs.Clauses.{Clause, satisfies, allTrue, Unsatisfiable}

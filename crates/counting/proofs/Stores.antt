@@ -1,13 +1,12 @@
 -- A solver's cells stay fit, and hold what was put there.
 use mathlib.Core.Path.{_≡_, refl, sym, ap, subst, _∙_}
 use mathlib.Core.List.{List, [], _∷_, _++_}
-use mathlib.Core.Bool.{Bool, true, false, _&&_, cond}
-use Prim.Native.Nat.{ℕ, zero, suc, _+_, _-_, min, _≤_, _<_}
+use mathlib.Core.Bool.{true}
+use Prim.Native.Nat.{ℕ, zero, suc, _+_, _-_, _≤_, _<_}
 use native.Mathlib.Omega.{arith}
 use lib.ListN.{length, getD, take, drop}
-use Rattle.std.proofs.shelf.Lists.{length-take, length-take-le, length-push, take-append-drop}
+use Rattle.std.proofs.shelf.Lists.{length-take-le, length-push, take-append-drop}
 use Rattle.std.proofs.shelf.Tests.{and-parts, and-from}
-use Rattle.literal.specs.declared.Literal.{Literal}
 use Rattle.sat.specs.Clauses.{Clause, cellsOf}
 use Rattle.sat.specs.Faults.{inRange, allInRange, holdFault, keepFault}
 use Rattle.counting.specs.Cells.{codesOf, flat, clausesIn, Coded, Small, Fit}

@@ -2,8 +2,8 @@
 
 ghost use mathlib.Core.Path.{_≡_};
 ghost use mathlib.Core.Bool.{true, false};
-ghost use Prim.Native.Nat.{ℕ, _-_, _<_, _≤_};
-ghost use lib.ListN.{length, getD};
+ghost use Prim.Native.Nat.{ℕ, _-_, _<_};
+ghost use lib.ListN.{getD};
 ghost use Rattle.std.specs.Options.{Cases as BySome};
 ghost use Rattle.literal.specs.Truth.{valuesOf};
 ghost use Rattle.sat.specs.Clauses.{allTrue, satisfies, Unsatisfiable};

@@ -3,16 +3,16 @@ use mathlib.Core.Path.{_≡_, refl, sym, ap, subst, _∙_}
 use mathlib.Core.Logic.{_≢_, inl, inr}
 use mathlib.Core.List.{List, [], _∷_, _++_}
 use mathlib.Core.Bool.{Bool, true, false, cond}
-use Prim.Native.Nat.{ℕ, zero, suc, min, _+_, _<_, _≤_}
+use Prim.Native.Nat.{ℕ, zero, suc, _+_, _<_, _≤_}
 use native.Mathlib.Omega.{arith}
 use lib.Dec.{eqb}
 use lib.ListN.{length, getD, set, take, drop}
-use Rattle.std.proofs.shelf.Lists.{take-more, take-set, take-more-set, length-take-le, length-append, length-set, getD-set-other, drop-set-lt, append-nil, set-getD, take-all}
+use Rattle.std.proofs.shelf.Lists.{take-more, take-set, length-take-le, length-append, length-set, getD-set-other, drop-set-lt, append-nil}
 use Rattle.std.proofs.shelf.Tests.{cases-eq, eq-eqb, ne-eqb}
 use Rattle.literal.specs.declared.Literal.{Literal}
-use Rattle.literal.specs.Truth.{Values, truth}
+use Rattle.literal.specs.Truth.{Values}
 use Rattle.sat.specs.Clauses.{allTrue, marked}
-use Rattle.sat.proofs.Laws.{all-append, all-parts, marked-length}
+use Rattle.sat.proofs.Laws.{all-append, all-parts}
 use Rattle.sat.proofs.Loops.{marked-take, marked-end, marked-push}
 use Rattle.sat.proofs.Narrowing.{unmarked, unmarked-fewer}
 

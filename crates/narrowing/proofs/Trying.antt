@@ -1,5 +1,5 @@
 -- Trying without an assumption: the call below passes its checks, and either answer says what becomes of the marks.
-use mathlib.Core.Path.{_≡_, refl, sym, ap, subst, _∙_}
+use mathlib.Core.Path.{_≡_, sym, ap, subst, _∙_}
 use mathlib.Core.Logic.{_≢_, inl, inr}
 use mathlib.Core.List.{List, _++_}
 use mathlib.Core.Bool.{true}
@@ -13,13 +13,13 @@ use Rattle.std.proofs.shelf.Tests.{cases-eq, cases-lt}
 use Rattle.literal.specs.declared.Literal.{Literal}
 use Rattle.literal.specs.Truth.{Values}
 use Rattle.sat.specs.declared.fault.SolverFault.{SolverFault}
-use Rattle.sat.specs.Answers.{Solved, Refuted, Narrowed}
-use Rattle.sat.specs.Clauses.{Clause, Satisfiable, Unsatisfiable, allTrue, marked, byteValues}
+use Rattle.sat.specs.Answers.{Solved, Refuted}
+use Rattle.sat.specs.Clauses.{Clause, Unsatisfiable, allTrue, marked, byteValues}
 use Rattle.sat.specs.Faults.{inRange, decideFault}
 use Rattle.sat.proofs.Checks.{decide-passes}
 use Rattle.sat.proofs.Laws.{range-marked, marked-length, none-more-marks}
 use Rattle.sat.proofs.Narrowing.{NarrowedBelow, narrowed-kept, narrowed-dropped, unmarked, unmarked-fewer, set-back, front-at, front-past, front-rest, front-length}
-use Rattle.narrowing.specs.Drops.{Dropped, Tried}
+use Rattle.narrowing.specs.Drops.{Tried}
 
 pub never : {Y : Type 0} (o : Option SolverFault) (e : SolverFault) → Some e ≡ o → o ≡ None → Y
 never o e p q = let z : _≡_ {A = ℕ} 0 1 = cc in absurd (omega arith)

@@ -1,13 +1,10 @@
 -- The worked cases hold.
-use Prim.Native.Nat.{ℕ, zero, suc}
-use mathlib.Core.Path.{_≡_, refl, sym, _∙_}
-use mathlib.Core.List.{[], _∷_}
+use mathlib.Core.Path.{_≡_, refl}
 use mathlib.Core.Bool.{Bool, true, false, not, _&&_, _||_}
 use lib.Dec.{eqb}
-use Rattle.std.proofs.shelf.Tests.{false≢true, true≢false}
+use Rattle.std.proofs.shelf.Tests.{false≢true}
 use Rattle.literal.specs.Truth.{Values}
-use Rattle.sat.specs.Clauses.{satisfies, allTrue}
-use Rattle.sat.specs.Worked.{literal, workedClauses, WorkedSolver}
+use Rattle.sat.specs.Worked.{WorkedSolver}
 
 abbrev given : Values
 given x = eqb x 2

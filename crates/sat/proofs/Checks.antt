@@ -11,7 +11,7 @@ use Rattle.std.specs.declared.option.Option.{Option}
 use Rattle.std.specs.declared.option.Option.the-variants.{Some, None}
 use Rattle.literal.specs.declared.Literal.{Literal}
 use Rattle.sat.specs.declared.fault.SolverFault.{SolverFault}
-use Rattle.sat.specs.declared.fault.SolverFault.the-variants.{VariableOutOfRange, TooManyLiterals, CellsFull, CountExceeded, BufferShort, SizeUnfit, FirstExceeded}
+use Rattle.sat.specs.declared.fault.SolverFault.the-variants.{VariableOutOfRange, TooManyLiterals, CellsFull, CountExceeded, BufferShort, FirstExceeded}
 use Rattle.sat.specs.Faults.{inRange, mostLiterals, literalsFault, holdFault, keepFault, buffersFit, decideFault, narrowFault}
 
 some-none : {X : Type 0} {Y : Type 0} (x : X) → Some x ≡ None → Y

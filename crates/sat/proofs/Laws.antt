@@ -1,13 +1,13 @@
 -- Laws of clauses, assumptions and marks, for callers of a solver.
 use mathlib.Core.Path.{_≡_, refl, sym, ap, subst, _∙_}
-use mathlib.Core.Logic.{_≢_, _⊎_, inl, inr}
+use mathlib.Core.Logic.{inl, inr}
 use mathlib.Core.List.{List, [], _∷_, _++_}
 use mathlib.Core.Bool.{Bool, true, false, not, cond, _&&_, _||_}
-use Prim.Native.Nat.{ℕ, zero, suc, _+_, _-_, _≤_, _<_}
+use Prim.Native.Nat.{ℕ, zero, suc, _+_, _≤_, _<_}
 use native.Mathlib.Omega.{arith}
 use lib.Dec.{eqb, leb, ltb}
-use lib.ListN.{length, getD, set, take, drop, replicate}
-use Rattle.std.proofs.shelf.Tests.{and-parts, and-from, cases-bool, cases-eq, eqb-true, eqb-false, eq-eqb, ne-eqb, ltb-true, leb-true, lt-ltb, le-leb}
+use lib.ListN.{length, getD, take}
+use Rattle.std.proofs.shelf.Tests.{and-parts, and-from, cases-eq, eq-eqb, ne-eqb, ltb-true, leb-true, lt-ltb, le-leb}
 use Rattle.std.proofs.shelf.Lists.{take-all}
 use Rattle.literal.specs.declared.Literal.{Literal}
 use Rattle.literal.specs.Truth.{Values, truth, variableOf, negated}

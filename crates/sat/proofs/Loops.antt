@@ -4,7 +4,7 @@ use mathlib.Core.List.{List, [], _∷_, _++_}
 use mathlib.Core.Logic.{inl, inr}
 use native.Mathlib.Omega.{arith}
 use lib.Dec.{eqb}
-use mathlib.Core.Bool.{Bool, true, false, cond, _||_, _&&_}
+use mathlib.Core.Bool.{true, false, cond, _&&_}
 use Prim.Native.Nat.{ℕ, zero, suc, min, _+_, _≤_, _<_}
 use lib.ListN.{length, getD, set, take, drop, replicate}
 use Rattle.std.proofs.shelf.Lists.{at-drop-more, at-drop-all, drop-more, drop-all, set-at, length-replicate, append-assoc, replicate-more, take-all, take-append-le, take-take, length-take, take-more, length-take-le, take-more-set, length-push, append-nil}

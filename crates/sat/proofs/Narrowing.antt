@@ -1,16 +1,16 @@
 -- Dropping assumptions one after another leaves marks that are narrow.
-use mathlib.Core.Path.{_≡_, refl, sym, ap, subst, _∙_}
-use mathlib.Core.Logic.{_≢_, inl, inr}
-use mathlib.Core.List.{List, [], _∷_, _++_}
-use Prim.Native.Nat.{ℕ, zero, suc, min, _+_, _-_, _≤_, _<_}
+use mathlib.Core.Path.{_≡_, sym, ap, subst, _∙_}
+use mathlib.Core.Logic.{inl, inr}
+use mathlib.Core.List.{List, _++_}
+use Prim.Native.Nat.{ℕ, min, _+_, _-_, _≤_, _<_}
 use native.Mathlib.Omega.{arith}
-use lib.ListN.{length, getD, set, take, drop, replicate}
+use lib.ListN.{length, getD, set, drop, replicate}
 use Rattle.std.proofs.shelf.Tests.{cases-eq, cases-lt}
-use Rattle.std.proofs.shelf.Lists.{getD-set-same, getD-set-other, getD-past, length-set, set-past, drop-set-lt, set-set, set-getD, length-append, length-replicate, getD-append-left, getD-append-right, getD-replicate, getD-drop, drop-at, length-drop}
+use Rattle.std.proofs.shelf.Lists.{getD-set-same, getD-set-other, getD-past, length-set, drop-set-lt, set-set, set-getD, length-append, length-replicate, getD-append-left, getD-append-right, getD-replicate, getD-drop, drop-at, length-drop}
 use Rattle.literal.specs.declared.Literal.{Literal}
 use Rattle.sat.specs.Clauses.{Clause, Satisfiable, Unsatisfiable, marked}
 use Rattle.sat.specs.Answers.{Refuted, Narrowed}
-use Rattle.sat.proofs.Laws.{none-more-marks, some-fewer-marks, none-marked}
+use Rattle.sat.proofs.Laws.{some-fewer-marks, none-marked}
 
 -- the marks of a no that are narrow below a place
 pub record NarrowedBelow (cs : List Clause) (assumed : List Literal) (first i : ℕ) (before ms : List ℕ) : Type 0 where

@@ -1,11 +1,10 @@
 // The checks that every solver makes before it works, in the order of the refusals' numbers.
 
 ghost use mathlib.Core.Path.{_≡_};
-ghost use mathlib.Core.Bool.{Bool, true};
-ghost use Prim.Native.Nat.{ℕ, _<_};
-ghost use lib.ListN.{length};
+ghost use mathlib.Core.Bool.{true};
+ghost use Prim.Native.Nat.{_<_};
 ghost use Rattle.std.specs.Results.{errPart};
-ghost use Rattle.std.specs.declared.option.Option.the-variants.{Some, None};
+ghost use Rattle.std.specs.declared.option.Option.the-variants.{None};
 ghost use Rattle.sat.specs.Faults.{inRange, literalsFault, holdFault, keepFault, decideFault, narrowFault};
 use crate::fault::SolverFault;
 use literal::Literal;

@@ -1,8 +1,7 @@
 use native.Mathlib.Omega.{arith}
 use mathlib.Core.Path.{_≡_}
-use Rattle.counting.specs.Cells.{Passed, flat, clausesIn}
-use lib.ListN.{take, length}
-use Prim.Native.Nat.{ℕ, _-_}
+use Rattle.counting.specs.Cells.{Passed}
+use Prim.Native.Nat.{ℕ}
 use mathlib.Core.Path.{subst}
 use Rattle.counting.proofs.Codes.{passed-none, passed-more, passed-within, passed-all, passed-out}
 use Rattle.counting.proofs.cells.end_of.Needs as need

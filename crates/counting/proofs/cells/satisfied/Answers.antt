@@ -1,8 +1,7 @@
-use borrow.Author.Needs.{needs}
 use mathlib.Core.Path.{sym, _∙_}
 use Rattle.literal.specs.Truth.{valuesOf}
 use Rattle.counting.proofs.Codes.{small-clause, small-rest, parted-less}
-use Rattle.counting.proofs.Loops.{satisfied-true, satisfied-false, satisfied-end}
+use Rattle.counting.proofs.Loops.{satisfied-true, satisfied-end}
 use Rattle.counting.proofs.cells.satisfied.Needs as need
 
 pub clause-holds-requires : need.clause-holds-requires

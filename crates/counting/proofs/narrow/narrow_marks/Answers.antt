@@ -1,10 +1,6 @@
 use native.Mathlib.Omega.{arith}
-use mathlib.Core.Path.{_≡_, sym, ap, subst, _∙_}
-use mathlib.Core.List.{List}
-use mathlib.Core.Bool.{true}
+use mathlib.Core.Path.{sym, ap, _∙_}
 use lib.ListN.{set}
-use Rattle.literal.specs.declared.Literal.{Literal}
-use Rattle.sat.specs.Clauses.{marked}
 use Rattle.sat.specs.Faults.{inRange}
 use Rattle.counting.specs.Held.{held}
 use Rattle.sat.proofs.Laws.{marked-picked, range-marked}

@@ -1,7 +1,7 @@
 use native.Mathlib.Omega.{arith}
 use mathlib.Core.Path.{_≡_, sym, ap, _∙_}
 use mathlib.Core.Bool.{true}
-use Prim.Native.Nat.{_^_, _<_, _≤_}
+use Prim.Native.Nat.{_^_}
 use Rattle.std.proofs.shelf.Bits.{one-shl}
 use Rattle.std.proofs.shelf.Tests.{both-ways}
 use Rattle.literal.specs.Truth.{valuesOf}

@@ -1,11 +1,8 @@
 use native.Mathlib.Omega.{arith}
-use mathlib.Core.Path.{_≡_, refl, sym, ap, _∙_}
+use mathlib.Core.Path.{refl, ap, _∙_}
 use Prim.Native.Nat.{_+_}
 use lib.ListN.{length, set, drop}
-use Rattle.std.specs.declared.option.Option.the-variants.{None}
 use Rattle.std.proofs.shelf.Lists.{length-set}
-use Rattle.sat.specs.Clauses.{marked}
-use Rattle.sat.specs.Faults.{decideFault}
 use Rattle.sat.proofs.Decisions.{decided-yes, decided-no}
 use Rattle.sat.proofs.Laws.{marked-picked, marked-length}
 use Rattle.narrowing.proofs.Trying.{never, picked-passes, tried-yes, tried-no}

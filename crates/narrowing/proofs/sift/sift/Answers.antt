@@ -1,9 +1,8 @@
 use native.Mathlib.Omega.{arith}
 use mathlib.Core.Path.{_≡_, _∙_}
-use Prim.Native.Nat.{ℕ, _+_, _<_}
+use Prim.Native.Nat.{_+_, _<_}
 use lib.ListN.{length, getD, set}
-use Rattle.sat.specs.Clauses.{marked}
-use Rattle.narrowing.proofs.Sifts.{Sifted, sifted-none, sifted-skip, sifted-stay, sifted-drop, sifted-asks, sifted-place, sifted-as}
+use Rattle.narrowing.proofs.Sifts.{sifted-none, sifted-skip, sifted-stay, sifted-drop, sifted-asks, sifted-place, sifted-as}
 use Rattle.narrowing.proofs.sift.sift.Needs as need
 use Rattle.narrowing.proofs.sift.sift.Needs.{then-marks-i-eq1, then-i-first·then-again-place-ne1, else-i-first, else-marks-i-eq1}
 

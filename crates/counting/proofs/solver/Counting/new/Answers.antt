@@ -1,10 +1,10 @@
 use native.Mathlib.Omega.{arith}
-use mathlib.Core.Path.{_≡_, refl, sym, ap, _∙_}
-use Prim.Native.Nat.{ℕ, _-_, _≤_}
-use lib.ListN.{length, take}
+use mathlib.Core.Path.{_≡_, ap, _∙_}
+use Prim.Native.Nat.{_-_, _≤_}
+use lib.ListN.{length}
 use Rattle.std.proofs.shelf.Lists.{length-take}
 use Rattle.counting.specs.Held.{usedCells, room}
-use Rattle.counting.specs.Sizes.{sizeFault, granted}
+use Rattle.counting.specs.Sizes.{granted}
 use Rattle.counting.proofs.Stores.{fit-none}
 use Rattle.counting.proofs.Written.{sizes-few}
 use Rattle.counting.proofs.solver.Counting.new.Needs as need

@@ -1,14 +1,9 @@
 use native.Mathlib.Omega.{arith}
-use mathlib.Core.Path.{_≡_, refl, sym, ap, _∙_}
-use mathlib.Core.Bool.{false}
-use mathlib.Core.List.{[], _∷_, _++_}
-use Prim.Native.Nat.{ℕ, _+_, _-_}
-use lib.ListN.{length}
+use mathlib.Core.Path.{refl, sym, ap, _∙_}
+use Prim.Native.Nat.{_-_}
 use Rattle.std.proofs.shelf.Results.{err-from-errBy}
-use Rattle.sat.specs.Clauses.{cellsOf}
 use Rattle.sat.specs.Faults.{holdFault}
-use Rattle.counting.specs.Cells.{Fit}
-use Rattle.counting.specs.Held.{usedCells, held, room}
+use Rattle.counting.specs.Held.{room}
 use Rattle.sat.proofs.Checks.{hold-none}
 use Rattle.counting.proofs.Stores.{solver-push, solver-free, solver-count}
 use Rattle.counting.proofs.solver.CountingSolver.hold.Needs as need

@@ -1,12 +1,10 @@
 use native.Mathlib.Omega.{arith}
-use mathlib.Core.Path.{_≡_, refl, sym, ap, subst, _∙_}
+use mathlib.Core.Path.{_≡_, sym, ap, subst, _∙_}
 use mathlib.Core.List.{List}
-use mathlib.Core.Bool.{true}
 use Prim.Native.Nat.{ℕ, _+_, _^_, _<_, _≤_}
 use borrow.Author.Needs.{needs}
 use Rattle.sat.specs.Answers.{Narrowed}
 use lib.ListN.{length, drop}
-use Rattle.std.specs.declared.option.Option.the-variants.{None}
 use Rattle.sat.specs.Clauses.{Clause, Unsatisfiable, marked}
 use Rattle.sat.specs.Faults.{inRange, narrowFault}
 use Rattle.sat.proofs.Checks.{narrow-none, decide-passes}
