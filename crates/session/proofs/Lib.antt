@@ -1,0 +1,4 @@
+pub mod Home
+pub mod Laws
+pub mod OneWay
+pub mod Settling

@@ -1,0 +1,10 @@
+use mathlib.Core.Path.{refl}
+use Rattle.region.specs.Parts.{arenaIn, rowsIn}
+use Rattle.region.proofs.Exactness.{region-exact, region-playable}
+use Rattle.session.proofs.Laws.{law}
+use Rattle.session.proofs.calls.open.Needs as need
+
+pub returns : need.returns
+returns c =
+    let r = c .args .region .now in
+    record { value = refl; law = law (arenaIn r) (region-playable r) (rowsIn r) (region-exact r) }

@@ -1,0 +1,4 @@
+pub mod Faults
+pub mod Laws
+pub mod Sessions
+pub mod Views
