@@ -19,7 +19,7 @@ use Rattle.game.specs.Rows.{covered, good}
 use Rattle.game.specs.Runs.{Exact}
 use Rattle.game.specs.declared.row.Row.{Row}
 use Rattle.game.proofs.Answers.{exact-answered}
-use Rattle.game.proofs.Covered.{good-parts, good-from, not-good}
+use Rattle.game.proofs.Covered.{good-parts, not-good}
 use Rattle.region.specs.Judged.{within, passing, Passes}
 
 abbrev badOf : Result (Bool × ℕ) StepFault → Bool
@@ -29,6 +29,9 @@ badOf (Err f) = true
 abbrev nextOf : Result (Bool × ℕ) StepFault → ℕ
 nextOf (Ok p) = p .1
 nextOf (Err f) = 0
+
+ok-err : {p : Bool × ℕ} {f : StepFault} → _≡_ {A = Result (Bool × ℕ) StepFault} (Ok p) (Err f) → ⊥
+ok-err h = let z : _≡_ {A = ℕ} 0 1 = cc in omega arith
 
 some-none : {X : Type 0} {x : X} → Some x ≡ None → ⊥
 some-none h = let z : _≡_ {A = ℕ} 0 1 = cc in omega arith
@@ -43,19 +46,12 @@ module _ (g : Arena) (s e a : ℕ) where
       let q = and-parts (ltb e (g .events)) _ (p .1) in
       (ltb-true s (g .states) (p .0), ltb-true e (g .events) (q .0), ltb-true a (g .answers) (q .1))
 
-  -- what an answered step and a refused one say of the numbers
+  -- what an answered step says of the numbers
   pub step-ok : (b : Bool) (n : ℕ) → Ok (b, n) ≡ stepIn g s e a → (within g s e a ≡ true) × (b ≡ g .bad s e a) × (n ≡ g .next s e a)
   step-ok b n h =
       elim (cases-bool (within g s e a)) [
         | inl t ↦ let k : Ok (b, n) ≡ Ok (g .bad s e a, g .next s e a) = h ∙ cond-true _ _ _ t in (t, ap badOf k, ap nextOf k)
-        | inr f ↦ let k : Ok (b, n) ≡ Err OutOfRange = h ∙ cond-false _ _ _ f in let z : _≡_ {A = ℕ} 0 1 = cc in absurd (omega arith)
-      ]
-
-  pub step-err : (f : StepFault) → Err f ≡ stepIn g s e a → within g s e a ≡ false
-  step-err f h =
-      elim (cases-bool (within g s e a)) [
-        | inl t ↦ let k : Err f ≡ Ok (g .bad s e a, g .next s e a) = h ∙ cond-true _ _ _ t in let z : _≡_ {A = ℕ} 0 1 = cc in absurd (omega arith)
-        | inr f ↦ f
+        | inr f ↦ absurd (ok-err (h ∙ cond-false _ _ _ f))
       ]
 
 module _ (g : Arena) (rs : List Row) (s e a : ℕ) where
@@ -75,9 +71,6 @@ module _ (g : Arena) (rs : List Row) (s e a : ℕ) where
       (and-right (ltb s (g .states)) _ (and-right (ltb e (g .events)) (ltb a (g .answers)) (le-ltb a (g .answers) la))))
 
   -- the ways through a call that asks whether a step passes
-  pub passes-refused : (f : StepFault) → Err f ≡ stepIn g s e a → None ≡ passing g rs s e a
-  passes-refused f h = sym (passing-false (and-left _ _ (step-err g s e a f h)))
-
   pub passes-bad : (b : Bool) (n : ℕ) → Ok (b, n) ≡ stepIn g s e a → b ≡ true → None ≡ passing g rs s e a
   passes-bad b n h t =
       sym (passing-false (and-right (within g s e a) _ (and-left (not (g .bad s e a)) _ (ap not (sym (step-ok g s e a b n h .1) ∙ t)))))
@@ -86,12 +79,6 @@ module _ (g : Arena) (rs : List Row) (s e a : ℕ) where
   passes-covered b n h c =
       let c′ : covered rs (g .next s e a) ≡ true = rw (step-ok g s e a b n h .2) at c in
       sym (passing-false (and-right (within g s e a) _ (and-right (not (g .bad s e a)) _ (ap not c′))))
-
-  pub passes-good : (b : Bool) (n : ℕ) → Ok (b, n) ≡ stepIn g s e a → b ≡ false → covered rs n ≡ false → Some n ≡ passing g rs s e a
-  passes-good b n h f c =
-      let w = step-ok g s e a b n h in
-      let c′ : covered rs (g .next s e a) ≡ false = rw (w .2) at c in
-      ap Some (w .2) ∙ sym (passing-true (and-from _ _ (w .0) (good-from g rs s e a (sym (w .1) ∙ f) c′)))
 
   -- what it says of a step that it passes, or does not
   pub some-parts : (n : ℕ) → Some n ≡ passing g rs s e a

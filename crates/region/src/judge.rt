@@ -40,6 +40,13 @@ impl<'a> Region<'a> {
         ensures value { λ r. ⌜ r ≡ passing (arenaIn (now (self .entry))) (rowsIn (now (self .entry))) state event answer ⌝ }
         ensures judged { λ r. ⌜ Passes (arenaIn (now (self .entry))) state event answer r ⌝ }
     {
+        self.good_step(state, event, answer)
+    }
+
+    // The same as it is worked out; `passes` has the law above it.
+    fn good_step(&self, state: u32, event: u32, answer: u32) -> Option<u32>
+        ensures { λ r. ⌜ r ≡ passing (arenaIn (now (self .entry))) (rowsIn (now (self .entry))) state event answer ⌝ }
+    {
         let Ok((bad, next)) = self.step(state, event, answer) else {
             return None;
         };
@@ -55,8 +62,8 @@ impl<'a> Region<'a> {
         ensures answered { λ r. ⌜ (state < arenaIn (now (self .entry)) .states → event < arenaIn (now (self .entry)) .events → covered (rowsIn (now (self .entry))) state ≡ false → isSome r ≡ true) ⌝ }
     {
         for answer in 0..self.answers() {
-            if let Some(next) = self.passes(state, event, answer) {
-                return Some(Passed { answer, next });
+            if let Some(end) = self.passes(state, event, answer) {
+                return Some(Passed { answer, next: end });
             }
         }
         None

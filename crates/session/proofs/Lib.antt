@@ -1,4 +1,4 @@
+pub mod Giving
 pub mod Home
 pub mod Laws
 pub mod OneWay
-pub mod Settling

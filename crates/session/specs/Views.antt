@@ -32,11 +32,8 @@ abbrev pub resetStage : Result Waiting (Refusal Waiting) → Stage
 resetStage (Ok w) = waitingStage w
 resetStage (Err f) = waitingStage (f .session)
 
-abbrev pub settledReply : Settled → Reply
-settledReply s = settled (s .answer) (s .replaced)
-
 abbrev pub settleReply : Result Settled (Refusal Raised) → Reply
-settleReply (Ok s) = settledReply s
+settleReply (Ok s) = settled (s .answer) (s .replaced)
 settleReply (Err f) = refused (sessionNumber (f .fault))
 
 abbrev pub settleStage : Result Settled (Refusal Raised) → Stage

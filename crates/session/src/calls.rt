@@ -7,7 +7,8 @@ ghost use Rattle.region.specs.Parts.{arenaIn, rowsIn};
 ghost use Rattle.region.specs.Exact.{outside};
 ghost use Rattle.session.specs.Laws.{Law};
 ghost use Rattle.session.specs.Sessions.{waiting, raising, settling, resetting, Gives, atHome};
-ghost use Rattle.session.specs.Views.{waitingStage, raisedStage, raiseReply, raiseStage, resetReply, resetStage, settleReply, settleStage, settledReply};
+ghost use Rattle.session.specs.Views.{waitingStage, raisedStage, raiseReply, raiseStage, resetReply, resetStage, settleReply, settleStage};
+ghost use Rattle.session.specs.Outcomes.{resetSession, raiseOf, resetOf, JudgedAs};
 use crate::fault::SessionFault;
 use crate::stage::Raised;
 use crate::stage::Refusal;
@@ -20,13 +21,24 @@ pub fn open(region: &Region<'_>) -> Waiting
     ensures value { λ r. ⌜ waitingStage r ≡ waiting 0 ⌝ }
     ensures law { λ _. ⌜ Law (arenaIn (now (region .entry))) (rowsIn (now (region .entry))) ⌝ }
 {
-    Waiting { state: 0 }
+    at_reset()
 }
 
 impl Waiting {
     // A plug-in raises an event.
     pub fn raise(self, region: &Region<'_>, event: u32) -> Result<Raised, Refusal<Waiting>>
         ensures { λ r. ⌜ Gives (arenaIn (now (region .entry))) (rowsIn (now (region .entry))) (waitingStage self) (raising event) (raiseReply r) (raiseStage r) ⌝ }
+    {
+        self.raise_or_refuse(region, event)
+    }
+
+    // The same as it is worked out; `raise` has the relation.
+    fn raise_or_refuse(
+        self,
+        region: &Region<'_>,
+        event: u32,
+    ) -> Result<Raised, Refusal<Waiting>>
+        ensures { λ r. ⌜ r ≡ raiseOf (arenaIn (now (region .entry))) (rowsIn (now (region .entry))) self event ⌝ }
     {
         if !self.is_home(region) {
             return Err(Refusal {
@@ -50,13 +62,19 @@ impl Waiting {
     pub fn reset(self, region: &Region<'_>) -> Result<Waiting, Refusal<Waiting>>
         ensures { λ r. ⌜ Gives (arenaIn (now (region .entry))) (rowsIn (now (region .entry))) (waitingStage self) resetting (resetReply r) (resetStage r) ⌝ }
     {
+        self.reset_or_refuse(region)
+    }
+
+    fn reset_or_refuse(self, region: &Region<'_>) -> Result<Waiting, Refusal<Waiting>>
+        ensures { λ r. ⌜ r ≡ resetOf (arenaIn (now (region .entry))) (rowsIn (now (region .entry))) self ⌝ }
+    {
         if !self.is_home(region) {
             return Err(Refusal {
                 session: self,
                 fault: SessionFault::Foreign,
             });
         }
-        Ok(open(region))
+        Ok(at_reset())
     }
 
     // Whether the state is one of the region's, and uncovered.
@@ -99,7 +117,7 @@ impl Raised {
     fn judged(self, region: &Region<'_>, wish: u32) -> Settled
         requires home { ⌜ atHome (arenaIn (now region)) (rowsIn (now region)) (raisedStage self) ≡ true ⌝ }
         requires within { ⌜ wish < arenaIn (now region) .answers ⌝ }
-        ensures { λ r. ⌜ Gives (arenaIn (now (region .entry))) (rowsIn (now (region .entry))) (raisedStage self) (settling wish) (settledReply r) (waitingStage (r .session)) ⌝ }
+        ensures { λ r. ⌜ JudgedAs (arenaIn (now (region .entry))) (rowsIn (now (region .entry))) self wish r ⌝ }
     {
         if let Some(next) = region.passes(self.state, self.event, wish) {
             return Settled {
@@ -118,6 +136,12 @@ impl Raised {
             session: Waiting { state: lowest.next },
         }
     }
+}
+
+fn at_reset() -> Waiting
+    ensures { λ r. ⌜ r ≡ resetSession ⌝ }
+{
+    Waiting { state: 0 }
 }
 
 // Whether the state is one of the region's, and no row covers it.

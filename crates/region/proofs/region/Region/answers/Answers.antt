@@ -1,18 +1,14 @@
-use Prim.Native.Nat.{_^_, _<_}
-use mathlib.Core.Path.{_≡_, refl, sym, _∙_, ap}
+use Prim.Native.Nat.{_^_, _≤_}
 use native.Mathlib.Omega.{arith}
-use Rattle.std.proofs.shelf.Bits.{one-shl}
+use lib.Pow.{pow-mono}
 use Rattle.region.proofs.Exactness.{region-sound}
 use Rattle.region.proofs.region.Region.answers.Needs as need
 
-few : (c : need.After-answer-inputs) → c .answer-inputs .result < 32
-few c = let s = region-sound (c .args .self .now) .answers in omega (arith, c .answer-inputs .ensures)
+pub power-requires : need.power-requires
+power-requires c κs = let s = region-sound (c .args .self .now) .answers in omega (arith, c .answer-inputs .ensures)
 
 pub cast-result : need.cast-result
-cast-result c = let s = few c in omega arith
-
-pub shl-result : need.shl-result
-shl-result c = few c
-
-pub returns : need.returns
-returns c = one-shl (c .answer-inputs .result) 32 (few c) ∙ ap (λ n. 2 ^ n) (c .answer-inputs .ensures)
+cast-result c =
+    let s : c .answer-inputs .result ≤ 12 = omega (arith, region-sound (c .args .self .now) .answers, c .answer-inputs .ensures) in
+    let p : 2 ^ c .answer-inputs .result ≤ 2 ^ 12 = pow-mono s in
+    omega (arith, c .power .ensures)

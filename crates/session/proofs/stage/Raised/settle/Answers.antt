@@ -2,6 +2,7 @@ use mathlib.Core.Path.{_≡_, sym}
 use native.Mathlib.Omega.{arith}
 use Rattle.region.specs.Parts.{arenaIn, rowsIn}
 use Rattle.session.specs.Sessions.{pending, settling, foreign, farWish}
+use Rattle.session.proofs.Giving.{settle-gives}
 use Rattle.session.proofs.Home.{own, not-home}
 use Rattle.session.proofs.stage.Raised.settle.Needs as need
 
@@ -16,3 +17,8 @@ returns-then-wish-answers c =
     let t = pending (c .args .self .state) (c .args .self .event) in
     farWish (c .args .self .state) (c .args .self .event) (c .args .wish)
     (own (arenaIn (c .args .region .now)) (rowsIn (c .args .region .now)) t (sym (c .if-not-is-home .ensures tt))) (omega (arith, c .answers .ensures))
+
+pub returns : need.returns
+returns c =
+    settle-gives (arenaIn (c .args .region .now)) (rowsIn (c .args .region .now)) (c .args .self) (c .args .wish) (sym (c .if-not-is-home .ensures tt))
+    (omega (arith, c .answers .ensures)) (c .judged .result) (c .judged .ensures)
