@@ -1,0 +1,4 @@
+pub mod Exact
+pub mod Judged
+pub mod Parts
+pub mod Subject

@@ -1,0 +1,4 @@
+pub mod Giving
+pub mod Home
+pub mod Laws
+pub mod OneWay
