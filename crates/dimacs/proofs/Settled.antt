@@ -24,4 +24,5 @@ settled text rest h entries read values values′ a head body same v d = record 
   clauses = d .clauses;
   whole = head ∙ ap (λ (x : List (List ℕ)). headerWords h ++ x) (sym body ∙ ap spellings (sym same ∙ d .whole));
   counted = d .counted;
-  right = subst (λ (x : List ℕ). Right (d .clauses) x a) (sym v) (d .right) }
+  right = subst (λ (x : List ℕ). Right (d .clauses) x a) (sym v) (d .right);
+}

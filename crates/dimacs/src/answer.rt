@@ -32,12 +32,18 @@ pub struct Reason(pub DimacsFault);
 pub impl fmt::Display for Reason as ReasonDisplay {
     fn fmt<W: fmt::Write>(&self, f: &mut fmt::Formatter<W>) -> fmt::Result {
         match self.0 {
-            DimacsFault::Refused(SolverFault::SizeUnfit) => write!(f, "there are more than 8,192 variables"),
+            DimacsFault::Refused(SolverFault::SizeUnfit) => write!(
+                f,
+                "there are more than 8,192 variables"
+            ),
             DimacsFault::Refused(SolverFault::VariableOutOfRange) => write!(
                 f,
                 "a literal's variable is larger than the header says"
             ),
-            DimacsFault::Refused(SolverFault::TooManyLiterals) => write!(f, "a clause has more than 64 literals"),
+            DimacsFault::Refused(SolverFault::TooManyLiterals) => write!(
+                f,
+                "a clause has more than 64 literals"
+            ),
             fault => write!(f, "{fault}"),
         }
     }

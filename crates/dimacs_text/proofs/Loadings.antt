@@ -22,9 +22,10 @@ pub clause-at : (xs front rest back : List Literal) (i : ℕ) → i < length xs 
     → (xs ≡ front ++ end ∷ back) × (length back < length xs)
 clause-at xs front rest back i h z f r b =
     let d : drop i xs ≡ end ∷ drop (i + 1) xs = drop-more xs i end h ∙ ap (λ (l : Literal). l ∷ drop (i + 1) xs) (same-code (getD xs i end) z) in
-    let e : back ≡ drop (i + 1) xs = b ∙ ap (drop 1) (r ∙ d) in
-    (sym (take-append-drop i xs) ∙ ap (λ (x : List Literal). x ++ drop i xs) (sym f) ∙ ap (λ (x : List Literal). front ++ x) (d ∙ ap (λ (x : List Literal). end ∷ x) (sym e)),
-      omega (arith, ap length e, length-drop (i + 1) xs))
+    let e : back ≡ drop (i + 1) xs = b ∙ ap (drop 1) (r ∙ d) in (
+      sym (take-append-drop i xs) ∙ ap (λ (x : List Literal). x ++ drop i xs) (sym f) ∙ ap (λ (x : List Literal). front ++ x) (d ∙ ap (λ (x : List Literal). end ∷ x) (sym e)),
+      omega (arith, ap length e, length-drop (i + 1) xs),
+    )
 
 terminated-push : (cs : List Clause) (c : Clause) → terminated (cs ++ c ∷ []) ≡ terminated cs ++ (c ++ end ∷ [])
 terminated-push [] c = refl
@@ -38,10 +39,11 @@ loading-more entries rest next n held now now′ c w e a =
     record {
       clauses = cs ++ c ∷ [];
       whole = w .whole ∙ ap (λ (x : List Literal). terminated cs ++ x) (e ∙ sym (append-assoc c (end ∷ []) next)) ∙ sym (append-assoc (terminated cs) (c ++ end ∷ []) next)
-        ∙ ap (λ (x : List Literal). x ++ next) (sym (terminated-push cs c));
+          ∙ ap (λ (x : List Literal). x ++ next) (sym (terminated-push cs c));
       after = a ∙ ap (λ (x : List Clause). x ++ c ∷ []) (w .after) ∙ append-assoc held cs (c ∷ []);
       counted = omega (arith, w .counted, length-push cs c);
-      fewer = omega (arith, w .fewer, ap length e, length-append c (end ∷ next)) }
+      fewer = omega (arith, w .fewer, ap length e, length-append c (end ∷ next));
+    }
 
 loading-whole : (entries rest : List Literal) (n : ℕ) (held now : List Clause) (w : Loading entries rest n held now) → length rest ≡ 0 → entries ≡ terminated (w .clauses)
 loading-whole entries rest n held now w z =

@@ -51,8 +51,9 @@ positive w v e =
 -- what is spelled with a sign, and without one
 signed-is : (w : List ℕ) (l : Literal) → Writable l → w ≡ spelling l → 0 < length w → getD w 0 0 ≡ 45 → (drop 1 w ≡ decimal (variableOf l)) × (l .code % 2 ≡ 1)
 signed-is w l k e h s = elim (cases-eq (l .code % 2) 1) [
-    inl o ↦ (ap (drop 1) (e ∙ cond-true _ _ _ (eq-eqb (l .code % 2) 1 o)), o)
-  | inr z ↦ absurd (unsigned w (variableOf l) (e ∙ cond-false _ _ _ (ne-eqb (l .code % 2) 1 z)) h s) ]
+  | inl o ↦ (ap (drop 1) (e ∙ cond-true _ _ _ (eq-eqb (l .code % 2) 1 o)), o)
+  | inr z ↦ absurd (unsigned w (variableOf l) (e ∙ cond-false _ _ _ (ne-eqb (l .code % 2) 1 z)) h s)
+]
 
 pub negative-none : (w digits : List ℕ) → 0 < length w → getD w 0 0 ≡ 45 → digits ≡ drop 1 w → ((v : ℕ) → v ≤ 32767 → digits ≡ decimal v → ⊥) → Unspelled w
 negative-none w digits h s d f l k e =
@@ -72,7 +73,8 @@ negative-zero w digits v h s d e z l k q =
 
 pub positive-none : (w : List ℕ) → (0 < length w → getD w 0 0 ≡ 45 → ⊥) → ((v : ℕ) → v ≤ 32767 → w ≡ decimal v → ⊥) → Unspelled w
 positive-none w s f l k e = elim (cases-eq (l .code % 2) 1) [
-    inl o ↦
+  | inl o ↦
       (let q = e ∙ cond-true _ _ _ (eq-eqb (l .code % 2) 1 o) in
       s (omega (arith, ap length q)) (ap (λ (x : List ℕ). getD x 0 0) q))
-  | inr z ↦ f (variableOf l) (omega (arith, k .0)) (e ∙ cond-false _ _ _ (ne-eqb (l .code % 2) 1 z)) ]
+  | inr z ↦ f (variableOf l) (omega (arith, k .0)) (e ∙ cond-false _ _ _ (ne-eqb (l .code % 2) 1 z))
+]

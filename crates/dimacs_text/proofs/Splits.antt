@@ -49,12 +49,13 @@ pub words-at : (bs rest front back : List ℕ) (m n : ℕ) → m ≤ length bs �
 words-at bs rest front back m n h f ne start e b g stop fe be =
     let size : length rest ≡ length bs - m = ap length e ∙ length-drop m bs in
     let first : blank (getD rest 0 0) ≡ false
-          = ap (λ (x : List ℕ). blank (getD x 0 0)) e ∙ ap blank (getD-drop m bs 0 0) ∙ ap (λ x. blank (getD bs x 0)) (let q : m + 0 ≡ m = omega arith in q) ∙ start (omega arith) in
+    = ap (λ (x : List ℕ). blank (getD x 0 0)) e ∙ ap blank (getD-drop m bs 0 0) ∙ ap (λ x. blank (getD bs x 0)) (let q : m + 0 ≡ m = omega arith in q) ∙ start (omega arith) in
     let some : 1 ≤ n = elim (cases-lt 0 n) [ inl p ↦ p | inr p ↦ absurd (clash rest n (omega arith) first (stop (omega arith))) ] in
     let w : words bs ≡ take n rest ∷ words (drop n rest)
-          = words-skip bs m h f ∙ ap words (sym e) ∙ words-first rest n some b g stop in
-    (w ∙ ap (λ (x : List ℕ). x ∷ words (drop n rest)) (sym fe) ∙ ap (λ (x : List ℕ). front ∷ words x) (sym be),
-      omega (arith, ap length be, length-drop n rest, size))
+    = words-skip bs m h f ∙ ap words (sym e) ∙ words-first rest n some b g stop in (
+      w ∙ ap (λ (x : List ℕ). x ∷ words (drop n rest)) (sym fe) ∙ ap (λ (x : List ℕ). front ∷ words x) (sym be),
+      omega (arith, ap length be, length-drop n rest, size),
+    )
 
 -- a line, and the lines after it
 abbrev pub Lined : List ℕ → Option Parts → Type 0

@@ -28,11 +28,7 @@ fn clause<'a>(entries: &'a [Literal]) -> Option<(&'a [Literal], &'a [Literal])>
 }
 
 // Holds the clauses of the entries, as many as were promised.
-pub fn load<S: Solver>(
-    entries: &[Literal],
-    count: usize,
-    solver: &mut S,
-) -> Result<(), DimacsFault>
+pub fn load<S: Solver>(entries: &[Literal], count: usize, solver: &mut S) -> Result<(), DimacsFault>
     ensures cases { λ r. ⌜ Cases r (λ _. Loaded (now (entries .entry)) count (S·Solver .clauses (now (solver .entry))) (S·Solver .clauses (now (solver .exit)))) (λ e. Unloaded e (now (entries .entry)) count (S·Solver .variableCount (now (solver .entry))) (S·Solver .cellCount (now (solver .entry))) (S·Solver .clauses (now (solver .entry))) (S·Solver .clauses (now (solver .exit)))) ⌝ }
     ensures same_variables { λ _. ⌜ S·Solver .variableCount (now (solver .exit)) ≡ S·Solver .variableCount (now (solver .entry)) ⌝ }
     ensures same_cells { λ _. ⌜ S·Solver .cellCount (now (solver .exit)) ≡ S·Solver .cellCount (now (solver .entry)) ⌝ }

@@ -27,11 +27,7 @@ fn after_word<'a>(bytes: &'a [u8], wanted: &[u8]) -> Option<&'a [u8]>
     ensures { λ r. ⌜ BySome r ((ws : List (List ℕ)) → words (now (bytes .entry)) ≡ now (wanted .entry) ∷ ws → ⊥) (λ s. words (now (bytes .entry)) ≡ now (wanted .entry) ∷ words (now s)) ⌝ }
 {
     let (first, rest) = word(bytes)?;
-    if first == wanted {
-        Some(rest)
-    } else {
-        None
-    }
+    if first == wanted { Some(rest) } else { None }
 }
 
 // The number that the first word spells, and what stands after it.

@@ -10,4 +10,4 @@ pub returns-in-Break-clauses : need.returns-in-Break-clauses
 returns-in-Break-clauses c =
     rw (c .from-residual-in-Break-clauses .ensures)
     (λ v k h q e. c .in-Break-clauses .ensures tt k _ q
-      (third-words _ _ _ _ _ _ _ _ _ (c .in-Continue-rest .ensures tt) (c .in-Continue-rest-2 .ensures tt) (c .in-Continue-variables .ensures tt .0) e))
+    (third-words _ _ _ _ _ _ _ _ _ (c .in-Continue-rest .ensures tt) (c .in-Continue-rest-2 .ensures tt) (c .in-Continue-variables .ensures tt .0) e))
