@@ -54,7 +54,8 @@ pub impl<'a> Solver for Splitting<'a> as SplittingSolver {
     ghost cellCount = { λ s. cellNumber (s .memory) };
 
     fn variables(&self) -> usize {
-        self.memory.variables
+        let variables = self.memory.variables;
+        variables
     }
 
     fn cells(&self) -> usize {
