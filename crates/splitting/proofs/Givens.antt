@@ -9,11 +9,14 @@ use lib.ListN.{length, getD, set}
 use Rattle.std.proofs.shelf.Lists.{getD-set-same, getD-set-other, getD-map, length-map}
 use Rattle.literal.specs.declared.Literal.{Literal}
 use Rattle.splitting.specs.Cells.{Holds, codes, literal, InTable, Within}
-use Rattle.splitting.specs.Trails.{Kept, Assumed, Contrary, Good, Models, True, Refutes}
+use Rattle.splitting.specs.Trails.{Kept, Assumed, Contrary, Good, Models, True, Seen, SeenTrue, Follows, Refutes}
 use Rattle.splitting.proofs.Tables.{at-set}
 
 pub code-is : (ls : List Literal) (i r : ℕ) → i < length ls → r ≡ getD ls i (literal 0) .code → getD (codes ls) i 0 ≡ r
 code-is ls i r h e = getD-map (λ (l : Literal). l .code) ls i (literal 0) 0 h ∙ sym e
+
+pub code-at : (ls : List Literal) (i : ℕ) → i < length ls → getD (codes ls) i 0 ≡ getD ls i (literal 0) .code
+code-at ls i h = getD-map (λ (l : Literal). l .code) ls i (literal 0) 0 h
 
 pub length-codes : (ls : List Literal) → length (codes ls) ≡ length ls
 length-codes ls = length-map ls (λ (l : Literal). l .code)
@@ -55,26 +58,21 @@ assumed-again assumed value trail n i l k h s a =
     }
 
 -- it is false
-pub contrary : (assumed value trail : List ℕ) (n i l : ℕ) → Kept value trail n → (getD value (l / 2) 0 ≡ 0 → ⊥) → (getD value (l / 2) 0 ≡ 1 + l % 2 → ⊥)
-    → getD assumed i 0 ≡ l → i < length assumed → Assumed assumed trail n i → Contrary assumed
-contrary assumed value trail n i l k z f s h a =
+pub contrary : (assumed value trail seen : List ℕ) (n i l : ℕ) → Kept value trail n → (getD value (l / 2) 0 ≡ 0 → ⊥) → (getD value (l / 2) 0 ≡ 1 + l % 2 → ⊥)
+    → getD assumed i 0 ≡ l → i < length assumed → l / 2 < length seen → Assumed assumed trail n i → Contrary assumed (set seen (l / 2) 1)
+contrary assumed value trail seen n i l k z f s h t a =
     let w = placed value trail n l k (omega (arith, z)) in
-    let u = a .only (w .0) (w .1 .0) in (
-      u .0,
-      (
-        i,
-        (
-          omega (arith, u .1 .0),
-          (
-            h,
-            (
-              ap (λ x. x / 2) (sym (u .1 .1)) ∙ w .1 .1 .0 ∙ ap (λ x. x / 2) (sym s),
-              λ q. f (w .1 .1 .1 ∙ ap (λ x. 1 + x % 2) (u .1 .1 ∙ q ∙ s)),
-            ),
-          ),
-        ),
-      ),
-    )
+    let u = a .only (w .0) (w .1 .0) in
+    let v : getD assumed (u .0) 0 / 2 ≡ l / 2 = ap (λ x. x / 2) (sym (u .1 .1)) ∙ w .1 .1 .0 in
+    record {
+      one = u .0;
+      other = i;
+      one-below = omega (arith, u .1 .0);
+      other-below = h;
+      variable = v ∙ ap (λ x. x / 2) (sym s);
+      differ = λ q. f (w .1 .1 .1 ∙ ap (λ x. 1 + x % 2) (u .1 .1 ∙ q ∙ s));
+      seen-one = omega (arith, ap (λ x. getD (set seen (l / 2) 1) x 0) v, getD-set-same seen (l / 2) 1 0 t);
+    }
 
 pub assumed-as : (assumed : List ℕ) (i : ℕ) (value value′ trail trail′ : List ℕ) (n n′ : ℕ) → value′ ≡ value → trail′ ≡ trail → n′ ≡ n
     → Kept value trail n × Assumed assumed trail n i → Kept value′ trail′ n′ × Assumed assumed trail′ n′ i
@@ -83,20 +81,24 @@ assumed-as assumed i value value′ trail trail′ n n′ p q r both =
     subst (λ (m : ℕ). P value′ trail′ m) (sym r) (subst (λ (t : List ℕ). P value′ t n) (sym q) (subst (λ (v : List ℕ). P v trail n) (sym p) both))
 
 -- contrary assumptions have no model
-pub contrary-refutes : (cells assumed : List ℕ) → Contrary assumed → Refutes cells assumed
-contrary-refutes cells assumed w m d given =
-    let j = w .0 in
-    let k = w .1 .0 in
-    let x = given j (w .1 .1 .0) in
-    let y = given k (w .1 .1 .1 .0) in
-    let e : m (getD assumed j 0 / 2) ≡ m (getD assumed k 0 / 2) = ap m (w .1 .1 .1 .1 .0) in
-    w .1 .1 .1 .1 .1 (omega (arith, x, y, e, w .1 .1 .1 .1 .0))
+pub contrary-refutes : (cells seen assumed : List ℕ) → Contrary assumed seen → Refutes cells seen assumed
+contrary-refutes cells seen assumed w m d given =
+    let a = getD assumed (w .one) 0 in
+    let b = getD assumed (w .other) 0 in
+    let x = given (w .one) (w .one-below) (w .seen-one) in
+    let y = given (w .other) (w .other-below) (omega (arith, w .seen-one, ap (λ v. getD seen v 0) (w .variable))) in
+    let e : m (a / 2) ≡ m (b / 2) = ap m (w .variable) in
+    w .differ (omega (arith, x, y, e, w .variable))
 
 -- the trail's first places for the assumptions
-pub refutes-trail : (cells assumed trail : List ℕ) (n : ℕ) → Assumed assumed trail n (length assumed)
-    → ((m : ℕ → ℕ) → Models cells m → ((j : ℕ) → j < n → True m (getD trail j 0)) → ⊥) → Refutes cells assumed
-refutes-trail cells assumed trail n a none m d given =
-    none m d (λ j h. let w = a .only j h in let P : ℕ → Type 0 = λ l. True m l in subst P (sym (w .1 .1)) (given (w .0) (w .1 .0)))
+pub refutes-trail : (cells seen assumed trail : List ℕ) (n : ℕ) → Assumed assumed trail n (length assumed)
+    → ((m : ℕ → ℕ) → Models cells m → SeenTrue m trail seen n → ⊥) → Refutes cells seen assumed
+refutes-trail cells seen assumed trail n a none m d given =
+    none m d (λ j h s.
+    let w = a .only j h in
+    let P : ℕ → Type 0 = λ l. True m l in
+    let S : ℕ → Type 0 = λ l. Seen seen l in
+    subst P (sym (w .1 .1)) (given (w .0) (w .1 .0) (subst S (w .1 .1) s)))
 
 pub holds-assumed : (assumed trail value : List ℕ) (n : ℕ) → Assumed assumed trail n (length assumed)
     → ((j : ℕ) → j < n → Holds value (getD trail j 0)) → (k : ℕ) → k < length assumed → Holds value (getD assumed k 0)
@@ -107,11 +109,14 @@ holds-assumed assumed trail value n a h k b =
 pub good-assumed : (cells value trail reason : List ℕ) (n : ℕ) → Kept value trail n → length reason ≡ length trail → Good cells value trail reason n n
 good-assumed cells value trail reason n k s = record {
   kept = k;
-  follows = λ i a b. absurd (omega arith);
+  reasons = λ i a b. absurd (omega arith);
   fronts = λ i a b. absurd (omega arith);
   sizes = s;
   based = omega arith;
 }
+
+pub follows-none : (cells trail reason seen : List ℕ) (n : ℕ) → Follows cells trail reason seen n n
+follows-none cells trail reason seen n i a b = absurd (omega arith)
 
 pub within-table : (c : List ℕ) (V size : ℕ) → V ≤ size - 1 → Within c V → InTable c size
 within-table c V size h w k b = omega (arith, w k b .0, w k b .1)

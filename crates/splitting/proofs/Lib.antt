@@ -1,6 +1,7 @@
 pub mod Steps
 pub mod Tables
 pub mod Weights
+pub mod Walks
 pub mod Entails
 pub mod Sweeps
 pub mod Givens

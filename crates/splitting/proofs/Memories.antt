@@ -24,6 +24,7 @@ fit-of s = record {
   values = s .values;
   trails = s .trails;
   reasons = s .reasons;
+  marks = s .marks;
 }
 
 empty-cells : (m : Memory) → m .used ≡ 0 → usedCells m ≡ []
@@ -41,8 +42,8 @@ column-holds true V = omega arith
 column-holds false V = omega arith
 
 pub fit-empty : (m : Memory) → m .used ≡ 0 → m .count ≡ 0 → m .variables ≤ length (now (m .value .numbers)) - 1
-    → length (now (m .trail .numbers)) ≡ length (now (m .value .numbers)) → length (now (m .reason .numbers)) ≡ length (now (m .value .numbers)) → Fit m
-fit-empty m u n v t r =
+    → length (now (m .trail .numbers)) ≡ length (now (m .value .numbers)) → length (now (m .reason .numbers)) ≡ length (now (m .value .numbers)) → length (now (m .seen .numbers)) ≡ length (now (m .value .numbers)) → Fit m
+fit-empty m u n v t r k =
     let e = empty-clauses m u in
     record {
       within = omega arith;
@@ -52,6 +53,7 @@ fit-empty m u n v t r =
       values = v;
       trails = t;
       reasons = r;
+      marks = k;
     }
 
 -- the cells in use are those that the clauses take

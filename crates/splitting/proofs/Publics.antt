@@ -16,7 +16,7 @@ use Rattle.sat.specs.Answers.{Solved, Refuted}
 use Rattle.splitting.specs.Cells.{Holds, Met, clauses, literal, codes, Within, flat}
 use Rattle.splitting.specs.Trails.{True, Meets, Models, AllMet, Refutes}
 use Rattle.splitting.specs.Held.{literals}
-use Rattle.splitting.specs.Written.{Valued}
+use Rattle.splitting.specs.Written.{Valued, MarkedBy}
 
 -- truth under values, literal by literal
 pub any-from : (v : Values) (c : List ℕ) (k : ℕ) → k < length c → truth v (literal (getD c k 0)) ≡ true → anyTrue v (literals c) ≡ true
@@ -131,22 +131,34 @@ models-of v cells e = record {
       (w .0, (w .1 .0, truth-true v (getD (getD (clauses cells) j []) (w .0) 0) (w .1 .1)));
 }
 
--- where every assumption is marked
-marked-all : (ls : List Literal) (ms : List ℕ) → length ls ≤ length ms → ((k : ℕ) → k < length ls → getD ms k 0 ≡ 1) → marked ls ms ≡ ls
-marked-all [] ms h o = refl
-marked-all (l ∷ ls) [] h o = absurd (omega arith)
-marked-all (l ∷ ls) (m ∷ ms) h o =
-    cond-true _ _ _ (eq-eqb m 1 (o 0 (omega arith))) ∙ ap (λ (x : List Literal). l ∷ x) (marked-all ls ms (omega arith) (λ k b. o (suc k) (omega arith)))
+-- the assumptions that are marked are true where the marked ones are
+marked-to : (v : Values) (ls : List Literal) (ms : List ℕ) → length ls ≤ length ms → allTrue v (marked ls ms) ≡ true
+    → (k : ℕ) → k < length ls → getD ms k 0 ≡ 1 → truth v (literal (getD (codes ls) k 0)) ≡ true
+marked-to v [] ms h a k b e = absurd (omega arith)
+marked-to v (l ∷ ls) [] h a k b e = absurd (omega arith)
+marked-to v (l ∷ ls) (m ∷ ms) h a zero b e =
+    and-parts (truth v l) (allTrue v (marked ls ms)) (ap (allTrue v) (sym (cond-true _ (l ∷ marked ls ms) (marked ls ms) (eq-eqb m 1 e))) ∙ a) .0
+marked-to v (l ∷ ls) (m ∷ ms) h a (suc k) b e =
+    elim (cases-eq m 1) [
+      | inl o ↦ marked-to v ls ms (omega arith) (and-parts (truth v l) (allTrue v (marked ls ms)) (ap (allTrue v) (sym (cond-true _ (l ∷ marked ls ms) (marked ls ms) (eq-eqb m 1 o))) ∙ a) .1) k (omega arith) e
+      | inr z ↦ marked-to v ls ms (omega arith) (ap (allTrue v) (sym (cond-false _ (l ∷ marked ls ms) (marked ls ms) (ne-eqb m 1 z))) ∙ a) k (omega arith) e
+    ]
 
-pub refuted : (cells before after : List ℕ) (ls : List Literal) → Refutes cells (codes ls) → length ls ≤ length after
-    → ((k : ℕ) → k < length ls → getD after k 0 ≡ 1) → drop (length ls) after ≡ drop (length ls) before
+bit-small : (x y : ℕ) → y ≡ cond (eqb x 0) 0 1 → y ≤ 1
+bit-small x y e = elim (cases-eq x 0) [
+  | inl z ↦ omega (arith, e ∙ cond-true _ _ _ (eq-eqb x 0 z))
+  | inr o ↦ omega (arith, e ∙ cond-false _ _ _ (ne-eqb x 0 o))
+]
+
+pub refuted : (cells seen before after : List ℕ) (ls : List Literal) → Refutes cells seen (codes ls) → length ls ≤ length after → MarkedBy seen ls before after
     → Refuted (map literals (clauses cells)) ls before after
-refuted cells before after ls none size ones rest = record {
-  bits = λ k h. omega (arith, ones k h);
-  none = λ v s a. none (λ x. number (v x)) (models-of v cells s) (λ k h.
+refuted cells seen before after ls none size w = record {
+  bits = λ k h. bit-small (getD seen (getD (codes ls) k 0 / 2) 0) (getD after k 0) (w .marks k h);
+  none = λ v s a. none (λ x. number (v x)) (models-of v cells s) (λ k h q.
+      let b : k < length ls = omega (arith, length-map ls (λ (l : Literal). l .code)) in
       truth-true v (getD (codes ls) k 0)
-      (all-to v ls (ap (allTrue v) (sym (marked-all ls after size ones)) ∙ a) k (omega (arith, length-map ls (λ (l : Literal). l .code)))));
-  rest = rest;
+      (marked-to v ls after size a k b (w .marks k b ∙ cond-false _ _ _ (ne-eqb (getD seen (getD (codes ls) k 0 / 2) 0) 0 (omega arith)))));
+  rest = w .rest;
 }
 
 -- the cells that clauses take

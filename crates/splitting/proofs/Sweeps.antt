@@ -11,15 +11,18 @@ use lib.Dec.{eqb}
 use lib.ListN.{length, getD, set}
 use Rattle.std.proofs.shelf.Tests.{cases-eq, eq-eqb, ne-eqb, cond-true, cond-false}
 use Rattle.std.proofs.shelf.Lists.{getD-set-other}
-use Rattle.splitting.specs.Cells.{Holds, Unset, Met, clauses, Starts, Reads, Whole, InTable, flat}
+use Rattle.splitting.specs.Cells.{Holds, Unset, Fails, Met, clauses, Starts, Reads, Whole, InTable, flat}
 use Rattle.splitting.specs.States.{Forced}
-use Rattle.splitting.specs.Trails.{Kept, Front, FrontBy, AllMet, Good}
-use Rattle.splitting.specs.Passes.{Free, Passing, opened, due}
+use Rattle.splitting.specs.Trails.{Kept, Front, FrontBy, AllMet, Good, Clash}
+use Rattle.std.specs.declared.option.Option.the-variants.{Some, None}
+use Rattle.splitting.specs.Passes.{Free, Passing, opened, due, passEnd, Ended}
+use Rattle.splitting.specs.declared.propagate.End.{End}
+use Rattle.splitting.specs.declared.propagate.End.the-variants.{Done, Stuck, Choose}
 use Rattle.splitting.specs.declared.propagate.Pass.{Pass}
 use Rattle.splitting.specs.declared.propagate.Pass.the-variants as pass
 use Rattle.splitting.proofs.Steps.{ended}
-use Rattle.splitting.proofs.Tables.{holds-push, holds-here}
-use Rattle.splitting.proofs.Entails.{good-write, granted-agrees, entailed-by}
+use Rattle.splitting.proofs.Tables.{holds-push, holds-here, at-set}
+use Rattle.splitting.proofs.Entails.{good-write, denied-of}
 use Rattle.splitting.proofs.Weights.{less-more}
 
 -- a clause at the front that is met
@@ -88,14 +91,39 @@ pub table-of : (cells : List ℕ) (n j : ℕ) (c : List ℕ) → Whole cells n �
 table-of cells n j c w e h = let P : List ℕ → Type 0 = λ x. InTable x n in subst P (sym e) (w .table j h)
 
 -- a forced literal goes onto the trail
-pub good-forced : (cells value trail reason value′ trail′ reason′ : List ℕ) (base n l j : ℕ) (c : List ℕ) → Good cells value trail reason base n
-    → n < length trail → trail′ ≡ set trail n l → reason′ ≡ set reason n 0 → Kept value′ trail′ (n + 1)
+pub good-forced : (cells value trail reason value′ trail′ reason′ : List ℕ) (base n l j p x : ℕ) (c : List ℕ) → Good cells value trail reason base n
+    → n < length trail → trail′ ≡ set trail n l → reason′ ≡ set reason n x → Kept value′ trail′ (n + 1) → x ≡ 2 * (p + 1) → p < length cells → Starts cells p j
     → c ≡ getD (clauses cells) j [] → j < length (clauses cells) → Forced c value (length c) l
     → Good cells value′ trail′ reason′ base (n + 1)
-good-forced cells value trail reason value′ trail′ reason′ base n l j c g h a b k e w f =
-    good-write cells value trail reason value′ trail′ reason′ base n n l 0 g (g .based) (omega arith) h a b k
-    (λ z m d grants. entailed-by cells value j l c e w f m d (granted-agrees cells value trail reason base n g m d grants))
+good-forced cells value trail reason value′ trail′ reason′ base n l j p x c g h a b k x-is inside starts e w f =
+    let q : x / 2 - 1 ≡ p = omega arith in
+    let S : ℕ → Type 0 = λ y. Starts cells y j in
+    let O : List ℕ → Type 0 = λ y. (i : ℕ) → i < length y → (getD y i 0 ≡ l → ⊥) → Fails value (getD y i 0) in
+    good-write cells value trail reason value′ trail′ reason′ base n n l x g (g .based) (omega arith) h a b k
+    (λ z o. record {
+      number = j;
+      starts = subst S (sym q) starts;
+      inside = omega arith;
+      forces = record { below = w; others = λ i y ne. denied-of value trail n _ (g .kept) (subst O e (f .others) i y ne) };
+    })
     (λ z. absurd (omega arith))
+
+-- a clause with no literal left
+pub clash-by : (cells value trail : List ℕ) (n p j : ℕ) (c : List ℕ) → Kept value trail n → Starts cells p j → c ≡ getD (clauses cells) j [] → j < length (clauses cells)
+    → ((k : ℕ) → k < length c → Fails value (getD c k 0)) → Clash cells trail n p
+clash-by cells value trail n p j c k s e h f =
+    let P : List ℕ → Type 0 = λ x. (i : ℕ) → i < length x → Fails value (getD x i 0) in
+    record { number = j; starts = s; below = h; denied = λ i b. denied-of value trail n _ k (subst P e f i b) }
+
+-- a new place with a reason
+pub new-more : (reason reason′ : List ℕ) (n₀ n x : ℕ) → n < length reason → reason′ ≡ set reason n x → 1 ≤ x
+    → ((j : ℕ) → n₀ ≤ j → j < n → 1 ≤ getD reason j 0) → (j : ℕ) → n₀ ≤ j → j < n + 1 → 1 ≤ getD reason′ j 0
+new-more reason reason′ n₀ n x h e o old j lo hi =
+    let q = ap (λ (t : List ℕ). getD t j 0) e in
+    elim (at-set reason n x j h) [
+      | inl w ↦ omega (arith, q, w .1)
+      | inr w ↦ omega (arith, q, w .1, old j lo (omega (arith, w .0)))
+    ]
 
 pub same-more : (trail trail′ : List ℕ) (first : List ℕ) (n₀ n l : ℕ) → n₀ ≤ n → trail′ ≡ set trail n l
     → ((j : ℕ) → j < n₀ → getD trail j 0 ≡ getD first j 0) → (j : ℕ) → j < n₀ → getD trail′ j 0 ≡ getD first j 0
@@ -114,9 +142,6 @@ pub sweep-on : (a size p next d d′ : ℕ) → d′ ≡ d → p < next → next
     → a * (2 * (size + 1)) + (d′ * (size + 1) + (size - next)) < a * (2 * (size + 1)) + (d * (size + 1) + (size - p))
 sweep-on a size p next d d′ e h r = omega (arith, ap (λ x. x * (size + 1)) e)
 
-pub clean-front : (s : Pass) (value : List ℕ) (front p : ℕ) → s ≡ pass.Clean → Passing s value front p → front ≡ p
-clean-front s value front p e w = let P : Pass → Type 0 = λ x. Passing x value front p in subst P e w
-
 -- the place that a decision's reason holds
 pub front-first : (cells trail : List ℕ) (n p why : ℕ) → flat (clauses cells) ≡ cells → (why / 2 ≡ p) ⊎ (why / 2 ≡ 0) → FrontBy cells trail n p → FrontBy cells trail n (why / 2)
 front-first cells trail n p why coded e f =
@@ -125,3 +150,30 @@ front-first cells trail n p why coded e f =
       | inl q ↦ subst P (sym q) f
       | inr q ↦ subst P (sym q) (record { number = 0; starts = sym coded; met = λ i h. absurd (omega arith) })
     ]
+
+-- the end of a pass
+pub pass-ended : (cells value trail : List ℕ) (n front p : ℕ) (s : Pass) (whole : Bool) (e : End) → Some e ≡ passEnd s whole → length cells ≤ p
+    → (whole ≡ true → length cells ≤ front) → Front cells value front → Passing s value front p → Ended e cells value trail n
+pass-ended cells value trail n front p pass.Clean whole e q h w f x =
+    let P : End → Type 0 = λ y. Ended y cells value trail n in
+    let r : e ≡ Done = cc in
+    subst P (sym r) (met-end cells value front (omega arith) f)
+pass-ended cells value trail n front p (pass.Open l) whole e q h w f x =
+    let P : End → Type 0 = λ y. Ended y cells value trail n in
+    let r : e ≡ Choose l = cc in
+    subst P (sym r) x
+pass-ended cells value trail n front p pass.Changed true e q h w f x =
+    let P : End → Type 0 = λ y. Ended y cells value trail n in
+    let r : e ≡ Done = cc in
+    subst P (sym r) (met-end cells value front (w refl) f)
+pass-ended cells value trail n front p pass.Changed false e q h w f x = let z : _≡_ {A = ℕ} 0 1 = cc in absurd (omega arith)
+
+pub pass-due : (s : Pass) (whole : Bool) → None ≡ passEnd s whole → (due s ≡ 1) × (whole ≡ false)
+pass-due pass.Clean whole e = let z : _≡_ {A = ℕ} 0 1 = cc in absurd (omega arith)
+pass-due (pass.Open l) whole e = let z : _≡_ {A = ℕ} 0 1 = cc in absurd (omega arith)
+pass-due pass.Changed true e = let z : _≡_ {A = ℕ} 0 1 = cc in absurd (omega arith)
+pass-due pass.Changed false e = (refl, refl)
+
+pub sweep-due : (a size p front d : ℕ) → d ≡ 1 → front < size
+    → a * (2 * (size + 1)) + (0 * (size + 1) + (size - front)) < a * (2 * (size + 1)) + (d * (size + 1) + (size - p))
+sweep-due a size p front d e h = omega (arith, ap (λ x. x * (size + 1)) e)

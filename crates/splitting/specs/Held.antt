@@ -32,3 +32,4 @@ pub record Fit (m : Memory) : Type 0 where
   pub values : m .variables ≤ length (now (m .value .numbers)) - 1
   pub trails : length (now (m .trail .numbers)) ≡ length (now (m .value .numbers))
   pub reasons : length (now (m .reason .numbers)) ≡ length (now (m .value .numbers))
+  pub marks : length (now (m .seen .numbers)) ≡ length (now (m .value .numbers))

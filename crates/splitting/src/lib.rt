@@ -16,6 +16,7 @@ mod store;
 
 // The search, from the question down to one literal on the trail.
 mod assume;
+mod blame;
 mod propagate;
 mod search;
 mod solve;

@@ -19,7 +19,8 @@ pub struct Memory<'a> {
     // The literals that are true, in their order, and why.
     pub trail: Column<'a>,
     pub reason: Column<'a>,
-    pub spare: Column<'a>,
+    // By variable: whether what is assumed of it counts in a conflict.
+    pub seen: Column<'a>,
     // Each clause is its length and then its literals' codes.
     pub cells: Column<'a>,
     // How many cells are in use, and how many clauses they hold.
@@ -33,6 +34,7 @@ pub fn divide<'a>(numbers: &'a mut [u32], variables: usize) -> Memory<'a>
     ensures value { λ r. ⌜ length (now (r .value .numbers)) ≡ columnOver (length (now (numbers .entry))) variables ⌝ }
     ensures trail { λ r. ⌜ length (now (r .trail .numbers)) ≡ columnOver (length (now (numbers .entry))) variables ⌝ }
     ensures reason { λ r. ⌜ length (now (r .reason .numbers)) ≡ columnOver (length (now (numbers .entry))) variables ⌝ }
+    ensures seen { λ r. ⌜ length (now (r .seen .numbers)) ≡ columnOver (length (now (numbers .entry))) variables ⌝ }
     ensures cells { λ r. ⌜ length (now (r .cells .numbers)) ≡ cellsOver (length (now (numbers .entry))) variables ⌝ }
     ensures variables { λ r. ⌜ r .variables ≡ variablesOver (length (now (numbers .entry))) variables ⌝ }
     ensures used { λ r. ⌜ r .used ≡ 0 ⌝ }
@@ -46,13 +48,13 @@ pub fn divide<'a>(numbers: &'a mut [u32], variables: usize) -> Memory<'a>
     let (value, rest) = numbers.split_at_mut(column);
     let (trail, rest) = rest.split_at_mut(column);
     let (reason, rest) = rest.split_at_mut(column);
-    let (spare, rest) = rest.split_at_mut(column);
+    let (seen, rest) = rest.split_at_mut(column);
     let (cells, _) = rest.split_at_mut(cells);
     Memory {
         value: Column { numbers: value },
         trail: Column { numbers: trail },
         reason: Column { numbers: reason },
-        spare: Column { numbers: spare },
+        seen: Column { numbers: seen },
         cells: Column { numbers: cells },
         used: 0,
         count: 0,

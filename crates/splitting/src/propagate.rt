@@ -7,10 +7,11 @@ ghost use lib.Dec.{eqb};
 ghost use lib.ListN.{length, getD};
 ghost use Rattle.splitting.specs.Cells.{Whole};
 ghost use Rattle.splitting.specs.Trails.{Good, Front, left};
-ghost use Rattle.splitting.specs.Passes.{Ended, opened};
+ghost use Rattle.splitting.specs.Passes.{Ended, opened, passEnd};
 use crate::clause::State;
 use crate::clause::clause_at;
 use crate::clause::clause_state;
+use crate::trail::LAST_PLACE;
 use crate::trail::push;
 
 // What a pass has met so far.
@@ -35,6 +36,18 @@ impl Pass {
             Pass::Changed => Pass::Changed,
         }
     }
+
+    // What a pass comes to at the last clause, where every clause is satisfied or not; after a change another is due.
+    fn end(self, whole: bool) -> Option<End>
+        ensures { λ r. ⌜ r ≡ passEnd self whole ⌝ }
+    {
+        match self {
+            Pass::Clean => Some(End::Done),
+            Pass::Open(literal) => Some(End::Choose(literal)),
+            Pass::Changed if whole => Some(End::Done),
+            Pass::Changed => None,
+        }
+    }
 }
 
 // Why a propagation ended.
@@ -42,8 +55,8 @@ impl Pass {
 pub enum End {
     // Every clause is satisfied.
     Done,
-    // Every literal of a clause is false.
-    Stuck,
+    // Every literal of the clause at this place of the cells is false.
+    Stuck(usize),
     // Nothing is forced. The literal is the first without a value in the first clause that is not satisfied.
     Choose(u32),
 }
@@ -80,9 +93,12 @@ pub fn propagate(
     requires front { ⌜ Front (now cells) (now value) front ⌝ }
     ensures good { λ r. ⌜ Good (now (cells .entry)) (now (value .exit)) (now (trail .exit)) (now (reason .exit)) base (r .n) ⌝ }
     ensures front { λ r. ⌜ Front (now (cells .entry)) (now (value .exit)) (r .front) ⌝ }
-    ensures same { λ _. ⌜ ((j : ℕ) → j < n → getD (now (trail .exit)) j 0 ≡ getD (now (trail .entry)) j 0) ⌝ }
+    ensures same_trail { λ _. ⌜ ((j : ℕ) → j < n → getD (now (trail .exit)) j 0 ≡ getD (now (trail .entry)) j 0) ⌝ }
+    ensures same_reason { λ _. ⌜ ((j : ℕ) → j < n → getD (now (reason .exit)) j 0 ≡ getD (now (reason .entry)) j 0) ⌝ }
+    ensures forced { λ r. ⌜ ((j : ℕ) → n ≤ j → j < r .n → 1 ≤ getD (now (reason .exit)) j 0) ⌝ }
+    ensures longer { λ r. ⌜ n ≤ r .n ⌝ }
     ensures bound { λ r. ⌜ left (now (reason .exit)) (r .n) ≤ left (now (reason .entry)) n ⌝ }
-    ensures end { λ r. ⌜ Ended (r .end) (now (cells .entry)) (now (value .exit)) ⌝ }
+    ensures end { λ r. ⌜ Ended (r .end) (now (cells .entry)) (now (value .exit)) (now (trail .exit)) (r .n) ⌝ }
 {
     let mut n = n;
     let mut front = front;
@@ -90,25 +106,9 @@ pub fn propagate(
     let mut pass = Pass::Clean;
     'sweep: loop {
         if at >= cells.len() {
-            match pass {
-                Pass::Clean => return Spread {
-                    n,
-                    front,
-                    end: End::Done,
-                },
-                Pass::Open(literal) => return Spread {
-                    n,
-                    front,
-                    end: End::Choose(literal),
-                },
-                Pass::Changed => {
-                    if front >= cells.len() {
-                        return Spread {
-                            n,
-                            front,
-                            end: End::Done,
-                        };
-                    }
+            match pass.end(front >= cells.len()) {
+                Some(end) => return Spread { n, front, end },
+                None => {
                     at = front;
                     pass = Pass::Clean;
                 }
@@ -119,17 +119,18 @@ pub fn propagate(
             match clause_state(clause, value) {
                 State::Satisfied => front = past(front, at, next),
                 State::Open(literal) => pass = pass.with_open(literal),
-                State::Conflict => return Spread {
-                    n,
-                    front,
-                    end: End::Stuck,
-                },
-                State::Forces(literal) => {
-                    push(value, trail, reason, n, literal, 0);
+                State::Conflict => {
+                    let end = End::Stuck(at);
+                    return Spread { n, front, end };
+                }
+                State::Forces(literal) if at <= LAST_PLACE => {
+                    push(value, trail, reason, n, literal, 2 * (at as u32 + 1));
                     n += 1;
                     pass = Pass::Changed;
                     front = past(front, at, next);
                 }
+                // No reason can hold the clause's place, so its literal is left to a decision.
+                State::Forces(literal) => pass = pass.with_open(literal),
             }
             at = next;
         }

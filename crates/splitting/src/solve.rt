@@ -13,12 +13,12 @@ use crate::memory::Memory;
 use crate::search::search;
 use literal::Literal;
 
-// Takes every value out of the table.
-fn clear(value: &mut [u32])
-    ensures { λ _. ⌜ ((v : ℕ) → getD (now (value .exit)) v 0 ≡ 0) ⌝ }
+// Sets every number of a column to 0.
+fn clear(column: &mut [u32])
+    ensures { λ _. ⌜ ((v : ℕ) → getD (now (column .exit)) v 0 ≡ 0) ⌝ }
 {
-    for is in value.iter_mut() {
-        *is = 0;
+    for number in column.iter_mut() {
+        *number = 0;
     }
 }
 
@@ -29,27 +29,38 @@ fn solve_in(
     value: &mut Column,
     trail: &mut Column,
     reason: &mut Column,
+    seen: &mut Column,
 ) -> bool
     requires within { ⌜ used ≤ length (now (now cells .numbers)) ⌝ }
     requires whole { ⌜ Whole (take used (now (now cells .numbers))) (length (now (now value .numbers))) ⌝ }
     requires inside { ⌜ InTable (codes (now assumed)) (length (now (now value .numbers))) ⌝ }
     requires trails { ⌜ length (now (now trail .numbers)) ≡ length (now (now value .numbers)) ⌝ }
     requires reasons { ⌜ length (now (now reason .numbers)) ≡ length (now (now value .numbers)) ⌝ }
+    requires marks { ⌜ length (now (now seen .numbers)) ≡ length (now (now value .numbers)) ⌝ }
     ensures value { λ _. ⌜ length (now (now (value .exit) .numbers)) ≡ length (now (now (value .entry) .numbers)) ⌝ }
     ensures trail { λ _. ⌜ length (now (now (trail .exit) .numbers)) ≡ length (now (now (trail .entry) .numbers)) ⌝ }
     ensures reason { λ _. ⌜ length (now (now (reason .exit) .numbers)) ≡ length (now (now (reason .entry) .numbers)) ⌝ }
+    ensures seen { λ _. ⌜ length (now (now (seen .exit) .numbers)) ≡ length (now (now (seen .entry) .numbers)) ⌝ }
     ensures met { λ r. ⌜ (r ≡ true → AllMet (take used (now (now (cells .entry) .numbers))) (now (now (value .exit) .numbers))) ⌝ }
     ensures granted { λ r. ⌜ (r ≡ true → (k : ℕ) → k < length (now (assumed .entry)) → Holds (now (now (value .exit) .numbers)) (getD (codes (now (assumed .entry))) k 0)) ⌝ }
-    ensures none { λ r. ⌜ (r ≡ false → Refutes (take used (now (now (cells .entry) .numbers))) (codes (now (assumed .entry)))) ⌝ }
+    ensures none { λ r. ⌜ (r ≡ false → Refutes (take used (now (now (cells .entry) .numbers))) (now (now (seen .exit) .numbers)) (codes (now (assumed .entry)))) ⌝ }
 {
     clear(value.numbers);
-    match assume(assumed, value.numbers, trail.numbers, reason.numbers) {
+    clear(seen.numbers);
+    match assume(
+        assumed,
+        value.numbers,
+        trail.numbers,
+        reason.numbers,
+        seen.numbers,
+    ) {
         None => false,
         Some(base) => search(
             &cells.numbers[0..used],
             value.numbers,
             trail.numbers,
             reason.numbers,
+            seen.numbers,
             base,
         ),
     }
@@ -66,7 +77,7 @@ impl<'a> Memory<'a> {
         ensures same_cells { λ _. ⌜ cellNumber (now (self .exit)) ≡ cellNumber (now (self .entry)) ⌝ }
         ensures met { λ r. ⌜ (r ≡ true → AllMet (usedCells (now (self .entry))) (now (now (self .exit) .value .numbers))) ⌝ }
         ensures granted { λ r. ⌜ (r ≡ true → (k : ℕ) → k < length (now (assumed .entry)) → Holds (now (now (self .exit) .value .numbers)) (getD (codes (now (assumed .entry))) k 0)) ⌝ }
-        ensures none { λ r. ⌜ (r ≡ false → Refutes (usedCells (now (self .entry))) (codes (now (assumed .entry)))) ⌝ }
+        ensures none { λ r. ⌜ (r ≡ false → Refutes (usedCells (now (self .entry))) (now (now (self .exit) .seen .numbers)) (codes (now (assumed .entry)))) ⌝ }
     {
         let used = self.used;
         solve_in(
@@ -76,6 +87,7 @@ impl<'a> Memory<'a> {
             &mut self.value,
             &mut self.trail,
             &mut self.reason,
+            &mut self.seen,
         )
     }
 }

@@ -10,7 +10,6 @@ ghost use Rattle.splitting.specs.Held.{usedCells, held, cellNumber};
 ghost use Rattle.splitting.specs.Sizes.{variablesOver, cellsOver};
 use crate::memory::Memory;
 use crate::memory::divide;
-use crate::write::mark_all;
 use literal::Literal;
 use sat::Answer;
 use sat::Solver;
@@ -31,6 +30,7 @@ pub struct Splitting<'a> {
     ghost values: { memory .variables ≤ length (now (memory .value .numbers)) - 1 },
     ghost trails: { length (now (memory .trail .numbers)) ≡ length (now (memory .value .numbers)) },
     ghost reasons: { length (now (memory .reason .numbers)) ≡ length (now (memory .value .numbers)) },
+    ghost marks: { length (now (memory .seen .numbers)) ≡ length (now (memory .value .numbers)) },
 }
 
 impl<'a> Splitting<'a> {
@@ -54,7 +54,8 @@ pub impl<'a> Solver for Splitting<'a> as SplittingSolver {
     ghost cellCount = { λ s. cellNumber (s .memory) };
 
     fn variables(&self) -> usize {
-        self.memory.variables
+        let variables = self.memory.variables;
+        variables
     }
 
     fn cells(&self) -> usize {
@@ -74,7 +75,7 @@ pub impl<'a> Solver for Splitting<'a> as SplittingSolver {
         Ok(())
     }
 
-    // On no every assumption is marked.
+    // On no the assumptions are marked that some conflict came from.
     fn decide(
         &mut self,
         assumed: &[Literal],
@@ -86,7 +87,7 @@ pub impl<'a> Solver for Splitting<'a> as SplittingSolver {
             self.memory.write(values);
             Ok(Answer::Yes)
         } else {
-            mark_all(marks, assumed.len());
+            self.memory.mark(assumed, marks);
             Ok(Answer::No)
         }
     }

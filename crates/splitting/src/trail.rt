@@ -3,9 +3,37 @@
 ghost use mathlib.Core.Path.{_≡_};
 ghost use Prim.Native.Nat.{ℕ, _+_, _-_, _/_, _%_, _<_, _≤_};
 ghost use lib.ListN.{length, getD, set};
-ghost use Rattle.std.specs.Options.{Cases as BySome};
 ghost use Rattle.splitting.specs.Cells.{Unset};
-ghost use Rattle.splitting.specs.Trails.{Kept, Opened};
+ghost use Rattle.splitting.specs.Trails.{Kept};
+ghost use Rattle.splitting.specs.Blames.{Explains};
+
+// The largest place of the cells that a reason can hold.
+pub const LAST_PLACE: usize = 0x7fff_fffe;
+
+// Why a literal that is no assumption stands on the trail.
+#[derive(Clone, Copy)]
+pub enum Reason {
+    // It is an open decision, and every clause before this place of the cells was satisfied then.
+    Open(usize),
+    // It was one, and is turned round.
+    Turned,
+    // The clause at this place of the cells forces it.
+    Forced(usize),
+}
+
+impl Reason {
+    pub fn of(why: u32) -> Reason
+        ensures { λ r. ⌜ Explains r why ⌝ }
+    {
+        if why % 2 == 1 {
+            return Reason::Open((why / 2) as usize);
+        }
+        if why == 0 {
+            return Reason::Turned;
+        }
+        Reason::Forced((why / 2 - 1) as usize)
+    }
+}
 
 // The literal of the same variable and the other sign.
 pub fn negated(literal: u32) -> u32
@@ -43,25 +71,16 @@ pub fn push(
     reason[n] = why;
 }
 
-// Gives up the places from `n` down to the last open decision, and says where that was.
-pub fn back(
-    value: &mut [u32],
-    trail: &[u32],
-    reason: &[u32],
-    base: usize,
-    n: usize,
-) -> Option<usize>
+// Gives up the places from `n` down to `place`.
+pub fn undo(value: &mut [u32], trail: &[u32], place: usize, n: usize)
     requires kept { ⌜ Kept (now value) (now trail) n ⌝ }
-    requires sizes { ⌜ length (now reason) ≡ length (now trail) ⌝ }
-    ensures { λ r. ⌜ BySome r ((j : ℕ) → base ≤ j → j < n → getD (now (reason .entry)) j 0 % 2 ≡ 0) (λ i. Opened (now (value .exit)) (now (trail .entry)) (now (reason .entry)) base i n) ⌝ }
+    requires below { ⌜ place < n ⌝ }
+    ensures kept { λ _. ⌜ Kept (now (value .exit)) (now (trail .entry)) place ⌝ }
+    ensures unset { λ _. ⌜ Unset (now (value .exit)) (getD (now (trail .entry)) place 0) ⌝ }
 {
     let mut i = n;
-    while i > base {
+    while i > place {
         i -= 1;
         value[(trail[i] / 2) as usize] = 0;
-        if reason[i] % 2 == 1 {
-            return Some(i);
-        }
     }
-    None
 }

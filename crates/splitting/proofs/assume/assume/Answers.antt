@@ -32,12 +32,22 @@ push-requires c κs =
       sizes = c .loop-literal .kept .reason ∙ c .pre .sizes .0 ∙ sym (c .loop-literal .kept .trail);
     }
 
+pub index-seen-code : need.index-seen-code
+index-seen-code c =
+    let i = c .loop-literal .literal-index in
+    let ls = c .args .assumed .now in
+    let e : getD (codes ls) i 0 ≡ c .from-code .result = code-is ls i (c .from-code .result) (c .loop-literal-test .taken) (c .from-code .ensures) in
+    let h : i < length (codes ls) = omega (arith, length-codes ls, c .loop-literal-test .taken) in
+    omega (arith, c .pre .inside i h, ap (λ x. x / 2) e, c .pre .table, c .loop-literal .kept .seen)
+
 pub returns-then-is-code : need.returns-then-is-code
 returns-then-is-code c =
     let i = c .loop-literal .literal-index in
     let ls = c .args .assumed .now in
-    contrary (codes ls) (c .loop-literal .value) (c .loop-literal .trail) (c .loop-literal .n) i (c .from-code .result) (c .loop-literal .inv .0) (c .if-is-eq0 .left) (c .if-is-code .taken)
-    (code-is ls i (c .from-code .result) (c .loop-literal-test .taken) (c .from-code .ensures)) (omega (arith, length-codes ls, c .loop-literal-test .taken)) (c .loop-literal .inv .1)
+    let e : getD (codes ls) i 0 ≡ c .from-code .result = code-is ls i (c .from-code .result) (c .loop-literal-test .taken) (c .from-code .ensures) in
+    let h : i < length (codes ls) = omega (arith, length-codes ls, c .loop-literal-test .taken) in
+    contrary (codes ls) (c .loop-literal .value) (c .loop-literal .trail) (c .loop-literal .seen) (c .loop-literal .n) i (c .from-code .result) (c .loop-literal .inv .0) (c .if-is-eq0 .left) (c .if-is-code .taken)
+    e h (omega (arith, c .pre .inside i h, ap (λ x. x / 2) e, c .pre .table, c .loop-literal .kept .seen)) (c .loop-literal .inv .1)
 
 pub loop-literal-again : need.loop-literal-again
 loop-literal-again c =

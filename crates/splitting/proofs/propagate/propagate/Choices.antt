@@ -13,6 +13,8 @@ Inv-sweep l = Good (l .cells) (l .value) (l .trail) (l .reason) (l .base) (l .n)
     × Passing (l .pass) (l .value) (l .front) (l .at)
     × (l .entry .n ≤ l .n)
     × ((j : ℕ) → j < l .entry .n → getD (l .trail) j 0 ≡ getD (l .entry .trail) j 0)
+    × ((j : ℕ) → j < l .entry .n → getD (l .reason) j 0 ≡ getD (l .entry .reason) j 0)
+    × ((j : ℕ) → l .entry .n ≤ j → j < l .n → 1 ≤ getD (l .reason) j 0)
     × (left (l .reason) (l .n) ≤ left (l .entry .reason) (l .entry .n))
 
 abbrev pub μ-sweep : given.MeasureT-sweep

@@ -38,6 +38,7 @@ returns c =
         values = f .values;
         trails = f .trails;
         reasons = f .reasons;
+        marks = f .marks;
       };
       after = ap (map literals) (w .after) ∙ map-push literals (clauses old) (codes ls) ∙ ap (λ (x : Clause). map literals (clauses old) ++ (x ∷ [])) (literals-codes ls);
       same-variables = refl;

@@ -25,6 +25,7 @@ returns c =
         values = f .values;
         trails = f .trails;
         reasons = f .reasons;
+        marks = f .marks;
       };
       after = ap (map literals) (w .after) ∙ sym (take-map literals (c .args .kept) (clauses old));
       same-variables = refl;

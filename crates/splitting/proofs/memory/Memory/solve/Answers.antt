@@ -20,4 +20,5 @@ solve-in-requires c κs =
       inside = within-table (codes (c .args .assumed .now)) (m .variables) size (f .values) (c .pre .inside);
       trails = f .trails;
       reasons = f .reasons;
+      marks = f .marks;
     }

@@ -13,8 +13,8 @@ ghost-result c =
     let e = c .divide-memory .ensures in
     let f = fit-empty m (e .used) (e .count)
     (omega (arith, e .variables, e .value, column-holds (sizesFit (length (c .args .numbers .now)) (c .args .variables)) (c .args .variables)))
-    (e .trail ∙ sym (e .value)) (e .reason ∙ sym (e .value)) in
-    (f .within, (f .coded, ((λ j h k b. f .ranges j h k b .0), ((λ j h k b. f .ranges j h k b .1), (f .counted, (f .values, (f .trails, (f .reasons, tt))))))))
+    (e .trail ∙ sym (e .value)) (e .reason ∙ sym (e .value)) (e .seen ∙ sym (e .value)) in
+    (f .within, (f .coded, ((λ j h k b. f .ranges j h k b .0), ((λ j h k b. f .ranges j h k b .1), (f .counted, (f .values, (f .trails, (f .reasons, (f .marks, tt)))))))))
 
 pub returns : need.returns
 returns c = record {

@@ -4,6 +4,7 @@ use Prim.Native.Nat.{ℕ}
 use denote.Ref.{now}
 use Rattle.splitting.specs.Held.{usedCells}
 use Rattle.splitting.specs.Written.{Valued}
+use Rattle.splitting.proofs.Givens.{within-table}
 use Rattle.splitting.proofs.Memories.{fit-of}
 use Rattle.splitting.proofs.Refusals.{decide-accepts, range-within}
 use Rattle.splitting.proofs.Publics.{solved, refuted}
@@ -19,8 +20,14 @@ write-requires c κs =
     let a = decide-accepts _ _ _ _ (sym (c .in-Continue-check-decide .ensures tt)) in
     record { table = c .solve .ensures .fit .values; room = omega (arith, a .1, c .solve .ensures .same-variables) }
 
-pub mark-all-requires : need.mark-all-requires
-mark-all-requires c κs = decide-accepts _ _ _ _ (sym (c .in-Continue-check-decide .ensures tt)) .2
+pub mark-requires : need.mark-requires
+mark-requires c κs =
+    let a = decide-accepts _ _ _ _ (sym (c .in-Continue-check-decide .ensures tt)) in
+    let f = c .solve .ensures .fit in
+    record {
+      inside = within-table _ (c .args .self .now .memory .variables) _ (omega (arith, f .values, f .marks, c .solve .ensures .same-variables)) (range-within _ _ (a .0 .ranges));
+      room = a .2;
+    }
 
 pub returns-then-solve : need.returns-then-solve
 returns-then-solve c =
@@ -46,8 +53,8 @@ returns-else-solve c =
     record {
       refused = c .in-Continue-check-decide .ensures tt;
       cases = (
-        refuted (usedCells (c .args .self .now .memory)) (c .args .marks .now) (c .mark-all .last .marks) (c .args .assumed .now) (c .solve .ensures .none (c .if-solve .left))
-            (omega (arith, a .2, c .mark-all .kept .marks)) (c .mark-all .ensures .ones) (c .mark-all .ensures .rest),
+        refuted (usedCells (c .args .self .now .memory)) (now (c .solve .last .self .seen .numbers)) (c .args .marks .now) (c .mark .last .marks) (c .args .assumed .now)
+            (c .solve .ensures .none (c .if-solve .left)) (omega (arith, a .2, c .mark .kept .marks)) (c .mark .ensures),
         refl,
       );
       same = c .solve .ensures .same;
