@@ -13,9 +13,10 @@ use Rattle.std.proofs.shelf.Tests.{ltb-true, ltb-false}
 use Rattle.region.specs.Subject.{Arena, Row}
 use Rattle.region.specs.Judged.{passing, Lowest}
 use Rattle.region.proofs.Passing.{some-parts, none-parts, within-parts}
-use Rattle.session.specs.Outcomes.{raiseOf, resetOf, resetSession, JudgedAs}
-use Rattle.session.specs.Sessions.{Stage, waiting, pending, raising, settling, resetting, settled, Gives, atHome, foreign, raised, farEvent, back, used, replaced}
-use Rattle.session.specs.Views.{waitingStage, raisedStage, raiseReply, raiseStage, resetReply, resetStage}
+use Rattle.session.specs.Faults.{sessionNumber}
+use Rattle.session.specs.Outcomes.{raiseOf, resetOf, resetSession, SettledAs}
+use Rattle.session.specs.Sessions.{Stage, waiting, pending, raising, settling, resetting, settled, refused, Gives, atHome, foreign, raised, farEvent, back, used, replaced, farWish}
+use Rattle.session.specs.Views.{waitingStage, raisedStage, raiseReply, raiseStage, resetReply, resetStage, settleReply, settleStage}
 use Rattle.session.specs.declared.fault.SessionFault.the-variants.{Foreign, OutOfRange}
 use Rattle.session.specs.declared.stage.Raised.{Raised}
 use Rattle.session.specs.declared.stage.Refusal.{Refusal}
@@ -72,6 +73,14 @@ module _ (g : Arena) (rs : List Row) (s e w : ℕ) (home : atHome g rs (pending 
   judged-at true a n h = replaced-by (sym (h .0)) a n (h .1 .0) (h .1 .1)
   judged-at false a n h = rw (h .1) (used-by n (sym (h .0)))
 
-pub settle-gives : (g : Arena) (rs : List Row) (t : Raised) (w : ℕ) → atHome g rs (raisedStage t) ≡ true → w < g .answers
-    → (r : Settled) → JudgedAs g rs t w r → Gives g rs (raisedStage t) (settling w) (settled (r .answer) (r .replaced)) (waiting (r .session .state))
-settle-gives g rs t w home lw r h = judged-at g rs (t .state) (t .event) w home lw (r .replaced) (r .answer) (r .session .state) h
+module _ (g : Arena) (rs : List Row) (t : Raised) (w : ℕ) where
+  -- the ways in which a settle is refused
+  refusal-at : (b : Bool) → atHome g rs (raisedStage t) ≡ b → (b ≡ true → g .answers ≤ w)
+      → Gives g rs (raisedStage t) (settling w) (refused (sessionNumber (cond b OutOfRange Foreign))) (raisedStage t)
+  refusal-at true h l = farWish (t .state) (t .event) w (own g rs (raisedStage t) h) (l refl)
+  refusal-at false h l = foreign (raisedStage t) (settling w) tt (not-home g rs (raisedStage t) h)
+
+  pub settle-gives : (r : Result Settled (Refusal Raised)) → SettledAs g rs t w r
+      → Gives g rs (raisedStage t) (settling w) (settleReply r) (settleStage r)
+  settle-gives (Ok r) h = judged-at g rs (t .state) (t .event) w (h .0) (h .1) (r .replaced) (r .answer) (r .session .state) (h .2)
+  settle-gives (Err f) h = rw (h .0, h .1) (refusal-at (atHome g rs (raisedStage t)) refl (h .2))

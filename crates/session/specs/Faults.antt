@@ -10,5 +10,5 @@ sessionNumber Foreign = 42
 sessionNumber OutOfRange = 43
 
 abbrev pub sessionReason : SessionFault → List ℕ
-sessionReason Foreign = codes "the session does not belong to this region"
-sessionReason OutOfRange = codes "the event or the wished answer is out of range"
+sessionReason Foreign = codes "the session is another region's"
+sessionReason OutOfRange = codes "the event or the wish is out of range"

@@ -1,8 +1,8 @@
 -- What the calls work out, as equations; the relation of calls is above them.
-use Prim.Native.Nat.{ℕ}
+use Prim.Native.Nat.{ℕ, _<_, _≤_}
 use mathlib.Core.Path.{_≡_}
 use mathlib.Core.List.{List}
-use mathlib.Core.Bool.{cond}
+use mathlib.Core.Bool.{true, cond}
 use lib.Dec.{ltb}
 use Rattle.std.specs.Orderings.{When}
 use Rattle.std.specs.declared.option.Option.the-variants.{Some, None}
@@ -11,7 +11,7 @@ use Rattle.std.specs.declared.result.Result.the-variants.{Ok, Err}
 use Rattle.region.specs.Subject.{Arena, Row}
 use Rattle.region.specs.Judged.{passing, Lowest}
 use Rattle.session.specs.Sessions.{atHome}
-use Rattle.session.specs.Views.{waitingStage}
+use Rattle.session.specs.Views.{waitingStage, raisedStage}
 use Rattle.session.specs.declared.fault.SessionFault.the-variants.{Foreign, OutOfRange}
 use Rattle.session.specs.declared.stage.Raised.{Raised}
 use Rattle.session.specs.declared.stage.Refusal.{Refusal}
@@ -36,3 +36,9 @@ JudgedAs g rs t w r =
     When (r .replaced)
     ((passing g rs (t .state) (t .event) w ≡ None) × Lowest g rs (t .state) (t .event) (Some record { answer = r .answer; next = r .session .state }))
     ((passing g rs (t .state) (t .event) w ≡ Some (r .session .state)) × (r .answer ≡ w))
+
+-- that, on the session's own region, where the wish is in range; otherwise the session comes back
+abbrev pub SettledAs : Arena → List Row → Raised → ℕ → Result Settled (Refusal Raised) → Type 0
+SettledAs g rs t w (Ok r) = (atHome g rs (raisedStage t) ≡ true) × (w < g .answers) × JudgedAs g rs t w r
+SettledAs g rs t w (Err f) =
+    (f .session ≡ t) × (f .fault ≡ cond (atHome g rs (raisedStage t)) OutOfRange Foreign) × (atHome g rs (raisedStage t) ≡ true → g .answers ≤ w)

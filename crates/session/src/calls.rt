@@ -8,7 +8,7 @@ ghost use Rattle.region.specs.Exact.{outside};
 ghost use Rattle.session.specs.Laws.{Law};
 ghost use Rattle.session.specs.Sessions.{waiting, raising, settling, resetting, Gives, atHome};
 ghost use Rattle.session.specs.Views.{waitingStage, raisedStage, raiseReply, raiseStage, resetReply, resetStage, settleReply, settleStage};
-ghost use Rattle.session.specs.Outcomes.{resetSession, raiseOf, resetOf, JudgedAs};
+ghost use Rattle.session.specs.Outcomes.{resetSession, raiseOf, resetOf, JudgedAs, SettledAs};
 use crate::fault::SessionFault;
 use crate::stage::Raised;
 use crate::stage::Refusal;
@@ -33,11 +33,7 @@ impl Waiting {
     }
 
     // The same as it is worked out; `raise` has the relation.
-    fn raise_or_refuse(
-        self,
-        region: &Region<'_>,
-        event: u32,
-    ) -> Result<Raised, Refusal<Waiting>>
+    fn raise_or_refuse(self, region: &Region<'_>, event: u32) -> Result<Raised, Refusal<Waiting>>
         ensures { λ r. ⌜ r ≡ raiseOf (arenaIn (now (region .entry))) (rowsIn (now (region .entry))) self event ⌝ }
     {
         if !self.is_home(region) {
@@ -90,6 +86,12 @@ impl Raised {
     // answer replaces it.
     pub fn settle(self, region: &Region<'_>, wish: u32) -> Result<Settled, Refusal<Raised>>
         ensures { λ r. ⌜ Gives (arenaIn (now (region .entry))) (rowsIn (now (region .entry))) (raisedStage self) (settling wish) (settleReply r) (settleStage r) ⌝ }
+    {
+        self.settle_or_refuse(region, wish)
+    }
+
+    fn settle_or_refuse(self, region: &Region<'_>, wish: u32) -> Result<Settled, Refusal<Raised>>
+        ensures { λ r. ⌜ SettledAs (arenaIn (now (region .entry))) (rowsIn (now (region .entry))) self wish r ⌝ }
     {
         if !self.is_home(region) {
             return Err(Refusal {

@@ -24,15 +24,14 @@ impl SessionFault {
     }
 }
 
+// The reason in words.
 pub impl fmt::Display for SessionFault as SessionFaultDisplay {
     ghost shown = { λ f. Some (sessionReason f) };
 
     fn fmt<W: fmt::Write>(&self, f: &mut fmt::Formatter<W>) -> fmt::Result {
         match self {
-            SessionFault::Foreign => f.write_str("the session does not belong to this region"),
-            SessionFault::OutOfRange => f.write_str(
-                "the event or the wished answer is out of range",
-            ),
+            SessionFault::Foreign => f.write_str("the session is another region's"),
+            SessionFault::OutOfRange => f.write_str("the event or the wish is out of range"),
         }
     }
 }

@@ -115,7 +115,7 @@ fn faults_have_numbers_and_words(rt: LibcRuntime) -> Result<(), Fail> {
     check_eq(SessionFault::Foreign.number(), 42)?;
     check_eq(SessionFault::OutOfRange.number(), 43)?;
     let foreign = SessionFault::Foreign.to_string(rt.alloc())?;
-    check(foreign.as_str() == "the session does not belong to this region")?;
+    check(foreign.as_str() == "the session is another region's")?;
     let out_of_range = SessionFault::OutOfRange.to_string(rt.alloc())?;
-    check(out_of_range.as_str() == "the event or the wished answer is out of range")
+    check(out_of_range.as_str() == "the event or the wish is out of range")
 }
