@@ -65,7 +65,7 @@ def main():
     for name in ("minisat", "picosat"):
         if subprocess.run(["which", name], capture_output=True).returncode == 0:
             programs.append((name, [name], "file"))
-    families = [(f"random 3-SAT, {n} variables", [random3(n, s) for s in range(10)]) for n in (20, 40, 60)]
+    families = [(f"random 3-SAT, {n} variables", [random3(n, s) for s in range(10)]) for n in (20, 40, 60, 100)]
     families += [(f"circuit, {g} gates", [circuit(g, s) for s in range(8)]) for g in (200, 500, 1000, 1500)]
     print("| formulas | " + " | ".join(n for n, _, _ in programs) + " | dimacs / plain |")
     print("|---|" + "---|" * (len(programs) + 1))
