@@ -1,0 +1,11 @@
+pub mod Bits
+pub mod Holding
+pub mod Models
+pub mod Tables
+pub mod Parts
+pub mod Sizes
+pub mod Meaning
+pub mod Said
+pub mod Steps
+pub mod Answering
+pub mod Candidates

@@ -1,0 +1,5 @@
+pub mod Literals
+pub mod Clauses
+pub mod Holding
+pub mod Laws
+pub mod Tables

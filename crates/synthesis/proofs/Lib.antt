@@ -1,0 +1,10 @@
+pub mod Meaning
+pub mod Meant
+pub mod Sizing
+pub mod Turns
+pub mod Adding
+pub mod Asking
+pub mod Counting
+pub mod Ends
+pub mod Good
+pub mod Growing
