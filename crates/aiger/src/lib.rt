@@ -1,4 +1,5 @@
 // The ASCII form of AIGER: reading a model from a file's bytes, and writing one.
+#![tactic(auto)]
 
 pub mod fault;
 mod file;

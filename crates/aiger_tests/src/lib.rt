@@ -1,4 +1,5 @@
 // Tests of reading and writing: tables of files, files of edge sizes, and a file that a design tool wrote.
+#![tactic(auto)]
 
 #[cfg(test)]
 mod cases;

@@ -1,4 +1,5 @@
 // A host's rules as a circuit: what a model is made of, a model, its counts, and a step of it.
+#![tactic(auto)]
 
 pub mod counts;
 pub mod fault;

@@ -1,4 +1,5 @@
 // Steps of small models, worked out by hand.
+#![tactic(auto)]
 
 mod models;
 #[cfg(test)]

@@ -1,4 +1,5 @@
 // A solver that tries all values, for up to 20 variables.
+#![tactic(auto)]
 
 mod answer;
 mod cells;

@@ -1,4 +1,5 @@
 // Decides a DIMACS text from standard input, and prints the answer as SAT competitions do.
+#![tactic(auto)]
 
 mod answer;
 mod solve;

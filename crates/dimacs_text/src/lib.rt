@@ -1,4 +1,5 @@
 // The DIMACS form of clauses: a text is read into any solver.
+#![tactic(auto)]
 
 mod fault;
 

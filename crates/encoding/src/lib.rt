@@ -1,4 +1,5 @@
 // A model's steps, rows and exceptions as clauses: what solvers hold, what satisfying values say, and the code between.
+#![tactic(auto)]
 
 pub mod answer;
 pub mod assumptions;

@@ -1,4 +1,5 @@
 // The host as a game against its plug-ins: which states rows cover, and what follows for how long the host lasts.
+#![tactic(auto)]
 
 pub mod arena;
 pub mod covers;

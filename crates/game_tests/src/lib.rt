@@ -1,4 +1,5 @@
 // Tests of rolls, rows and exceptions, apart so that their crates are proved once.
+#![tactic(auto)]
 
 #[cfg(test)]
 mod covers;

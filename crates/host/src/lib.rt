@@ -1,5 +1,6 @@
 // The whole job of a host as one call: find the states from which the rules can be kept for ever, and answer a list of
 // calls on a session.
+#![tactic(auto)]
 
 pub mod answer;
 pub mod exchange;

@@ -1,4 +1,5 @@
 // What the programs do with a model's file: read it, run the synthesis with solvers of one size, and serve calls.
+#![tactic(auto)]
 
 pub mod fault;
 pub mod judging;

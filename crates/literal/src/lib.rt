@@ -1,4 +1,5 @@
 // A literal of a circuit or of a clause.
+#![tactic(auto)]
 
 ghost use Rattle.std.specs.Prelude.{◌≡◌, false, not};
 ghost use Rattle.literal.specs.Truth.{Values, variable_of, negated, negation_of, truth, values_of};

@@ -1,4 +1,5 @@
 // What the benchmarks call, as functions of C's form.
+#![tactic(auto)]
 
 ghost use Rattle.std.specs.Prelude.{◌≡◌, ◌^◌, ◌<◌, ◌≤◌};
 ghost use Rattle.aiger.specs.Read.{read_of};

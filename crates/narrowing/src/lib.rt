@@ -1,4 +1,5 @@
 // A layer that makes any solver a narrowing one, by dropping assumptions.
+#![tactic(auto)]
 
 mod drops;
 pub mod layer;

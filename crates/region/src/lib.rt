@@ -1,4 +1,5 @@
 // A region: a model with the rows of a kept run. It is all that a session needs to know of the host's rules.
+#![tactic(auto)]
 
 pub mod counts;
 pub mod judge;

@@ -1,4 +1,5 @@
 // Rolls: a lent table of places of which the first some are used, and the search for the first element that covers a point.
+#![tactic(auto)]
 
 pub mod covering;
 pub mod fault;

@@ -1,5 +1,6 @@
 // What a solver is: its refusals, its answers, the two traits; and what solvers are built from: the checks that each makes
 // first, the marked ones of its assumptions, and the front of a buffer.
+#![tactic(auto)]
 
 pub mod answer;
 pub mod assumptions;

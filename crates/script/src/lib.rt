@@ -1,4 +1,5 @@
 // A script of steps: lines that ask for a step by an event and an answer.
+#![tactic(auto)]
 
 ghost use Rattle.std.specs.Prelude.{◌≡◌};
 ghost use Rattle.script.specs.Asked.{word_of, asked_of, AskedLaw};

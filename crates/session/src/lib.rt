@@ -1,4 +1,5 @@
 // Sessions: a host shows each answer that it wishes to give, and gets one back that keeps its rules keepable.
+#![tactic(auto)]
 
 pub mod calls;
 pub mod fault;

@@ -1,4 +1,5 @@
 // Tests of regions and sessions, apart so that their crates are proved once.
+#![tactic(auto)]
 
 mod models;
 #[cfg(test)]

@@ -1,4 +1,5 @@
 // Steps a model through a script, and says what each step answers.
+#![tactic(auto)]
 
 mod reply;
 

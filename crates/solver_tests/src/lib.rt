@@ -1,4 +1,5 @@
 // Tests of the three kinds of solver: the same questions put to each, the answers of outside solvers, and every refusal's edge.
+#![tactic(auto)]
 
 #[cfg(test)]
 mod cases;

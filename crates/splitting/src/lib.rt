@@ -1,4 +1,5 @@
 // The splitting solver: unit propagation and backtracking over one borrowed slice of numbers.
+#![tactic(auto)]
 
 // Making one: the check of the sizes, and the solver, which implements `sat::Solver`.
 mod sizes;

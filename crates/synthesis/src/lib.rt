@@ -1,4 +1,5 @@
 // The run: which states are lost, by rows that two solvers find.
+#![tactic(auto)]
 
 mod add;
 pub mod ask;

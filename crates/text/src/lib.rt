@@ -1,4 +1,5 @@
 // Numbers and fields of a line of text, as the file readers need them.
+#![tactic(auto)]
 
 ghost use Rattle.std.specs.Prelude.{◌≡◌, ℕ};
 ghost use Rattle.text.specs.Number.{number_of, Spelled};
