@@ -3,6 +3,6 @@ use Rattle.script.proofs.read_line.Goals as goal
 
 pub returns : goal.returns
 returns c = record {
-  value = c.two-words.ensures;
-  law = asked_law c.args.line.now c.two-words.result c.two-words.ensures;
+  value = c.two_words.ensures;
+  law = asked_law c.args.line.now c.two_words.result c.two_words.ensures;
 }

@@ -33,6 +33,6 @@ pub returns : goal.returns
 returns c =
     let bs = c.args.bytes.now in
     let i = c.loop-b.b-index in
-    word_some bs c.loop-b.value (let h = eqb-false (length bs) 0 (sym c.if-is-empty.ensures) in omega arith)
+    word_some bs c.loop-b.value (let h = eqb-false (length bs) 0 (sym c.if-is_empty.ensures) in omega arith)
     (sym c.loop-b.invariant.0 ∙ at_drop_all all_digits bs i c.loop-b-test.false)
     (sym (at_drop_all (bounded_on c.loop-b.value) bs i c.loop-b-test.false) ∙ c.loop-b.invariant.1)

@@ -8,8 +8,8 @@ use Rattle.circuit.proofs.Numbers.{next_below, next_more}
 use Rattle.circuit.proofs.step.next_state.Goals as goal
 use Rattle.circuit.proofs.step.next_state.Goals.{then-holds, else-holds}
 
-pub overflow-add-next : goal.overflow-add-next
-overflow-add-next c =
+pub overflow_add-next : goal.overflow_add-next
+overflow_add-next c =
     let v = values_of c.args.values.now in
     let ls = c.args.latches.now in
     let more = next_more v ls c.loop-j.j blank_latch true c.loop-j-test.true c.if-holds.ensures in
