@@ -119,7 +119,7 @@ def turn(text, new, inner, path, report):
             )
         if not antt and word.startswith("//"):
             return word
-        bare = word.rstrip("'") if word not in new else word
+        bare = word if word in new else word.rstrip("':")
         tail = word[len(bare):]
         behind = text[m.start() - 1 : m.start()] == "."
         if apart(path, bare) and not behind:
@@ -155,6 +155,9 @@ def main():
     top, inner = declared()
     new = tables(top, inner)
     report = []
+    if not new:
+        print("nothing is left to spell")
+        return
     for path in files("specs/**/*.antt", "proofs/**/*.antt", "src/**/*.rt"):
         text = open(path).read()
         turned = turn(text, new, inner, path, report)

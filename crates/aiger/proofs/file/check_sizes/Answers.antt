@@ -2,9 +2,9 @@ use Rattle.std.proofs.Common.{rules}
 use Rattle.aiger.specs.Read.{sized_of}
 use Rattle.aiger.proofs.file.check_sizes.Goals as goal
 
-pub returns-then-header-gt-MAX-VARIABLE : goal.returns-then-header-gt-MAX-VARIABLE
+pub returns-then-header-gt-MAX_VARIABLE : goal.returns-then-header-gt-MAX_VARIABLE
 unfolding sized_of
-returns-then-header-gt-MAX-VARIABLE c = search rules
+returns-then-header-gt-MAX_VARIABLE c = search rules
 
 pub returns-then-header-inputs : goal.returns-then-header-inputs
 unfolding sized_of

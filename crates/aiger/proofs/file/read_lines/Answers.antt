@@ -5,9 +5,9 @@ use Rattle.aiger.proofs.Files.{turn, stop, cut_shorter, unfinished_turn, plain_e
 use Rattle.aiger.proofs.Fitting.{keep}
 use Rattle.aiger.proofs.file.read_lines.Goals as goal
 
-pub returns-in-err-take : goal.returns-in-err-take
-returns-in-err-take c =
-    let h = stop _ _ _ _ _ _ _ _ c.in-Some.ensures.value c.classify.ensures c.in-err-take.ensures c.loop-line.invariant.0 in
+pub returns-in_err-take : goal.returns-in_err-take
+returns-in_err-take c =
+    let h = stop _ _ _ _ _ _ _ _ c.in-Some.ensures.value c.classify.ensures c.in_err-take.ensures c.loop-line.invariant.0 in
     search (rules, h)
 
 pub loop-line-smaller : goal.loop-line-smaller
@@ -15,22 +15,22 @@ loop-line-smaller c = cut_shorter _ _ _ c.in-Some.ensures.value
 
 pub loop-line-preserved : goal.loop-line-preserved
 loop-line-preserved c = (
-  turn _ _ _ _ _ _ _ _ c.in-Some.ensures.value c.classify.ensures c.in-ok-take.ensures c.loop-line.invariant.0,
-  keep _ _ _ _ c.in-ok-take.ensures c.loop-line.invariant.1,
+  turn _ _ _ _ _ _ _ _ c.in-Some.ensures.value c.classify.ensures c.in_ok-take.ensures c.loop-line.invariant.0,
+  keep _ _ _ _ c.in_ok-take.ensures c.loop-line.invariant.1,
   omega (arith, cut_shorter c.loop-line.rest.now c.in-Some.line.now c.in-Some.after.now c.in-Some.ensures.value),
 )
 
-pub returns-in-err-take-2 : goal.returns-in-err-take-2
-returns-in-err-take-2 c =
-    let h = unfinished_turn _ _ _ _ _ _ c.in-default.ensures.value (omega arith) c.unfinished.ensures c.in-err-take-2.ensures c.loop-line.invariant.0 in
+pub returns-in_err-take-2 : goal.returns-in_err-take-2
+returns-in_err-take-2 c =
+    let h = unfinished_turn _ _ _ _ _ _ c.in_default.ensures.value (omega arith) c.unfinished.ensures c.in_err-take-2.ensures c.loop-line.invariant.0 in
     search (rules, h)
 
 pub end-requires : goal.end-requires
-end-requires c = (keep _ _ _ _ c.in-ok-take-2.ensures c.loop-line.invariant.1).bounds.inputs
+end-requires c = (keep _ _ _ _ c.in_ok-take-2.ensures c.loop-line.invariant.1).bounds.inputs
 
 pub returns-then-rest-gt0 : goal.returns-then-rest-gt0
 returns-then-rest-gt0 c =
-    let h = unfinished_turn _ _ _ _ _ _ c.in-default.ensures.value (omega arith) c.unfinished.ensures c.in-ok-take-2.ensures c.loop-line.invariant.0 in
+    let h = unfinished_turn _ _ _ _ _ _ c.in_default.ensures.value (omega arith) c.unfinished.ensures c.in_ok-take-2.ensures c.loop-line.invariant.0 in
     both_ended c.end.result _ _
     ∙ ap (λ (x : Result (Unit {0}) ReadFault). and_then x λ _. Ok (state_of c.take-then-rest-gt0.new.self c.take-then-rest-gt0.new.gates)) c.end.ensures ∙ h
 
@@ -39,6 +39,6 @@ end-requires-2 c = c.loop-line.invariant.1.bounds.inputs
 
 pub returns : goal.returns
 returns c =
-    let h = plain_end _ _ _ _ c.in-default.ensures.value (omega arith) c.loop-line.invariant.0 in
+    let h = plain_end _ _ _ _ c.in_default.ensures.value (omega arith) c.loop-line.invariant.0 in
     both_ended c.end-2.result _ _
     ∙ ap (λ (x : Result (Unit {0}) ReadFault). and_then x λ _. Ok (state_of c.loop-line.reader c.loop-line.gates)) c.end-2.ensures ∙ h

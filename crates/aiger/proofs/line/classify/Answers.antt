@@ -16,8 +16,8 @@ returns-in-o c = search (rules, line_parts c.args.bytes.now)
 pub returns-in-c : goal.returns-in-c
 returns-in-c c = search (rules, line_parts c.args.bytes.now)
 
-pub returns-in-default : goal.returns-in-default
-returns-in-default c = search (rules, line_parts c.args.bytes.now, line_whole c.args.bytes.now)
+pub returns-in_default : goal.returns-in_default
+returns-in_default c = search (rules, line_parts c.args.bytes.now, line_whole c.args.bytes.now)
 
 pub returns-in-empty : goal.returns-in-empty
 unfolding line_of

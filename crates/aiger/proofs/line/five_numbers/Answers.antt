@@ -2,25 +2,25 @@ use Rattle.aiger.specs.Line.{five_of}
 use Rattle.std.proofs.Common.{arith, rules}
 use Rattle.aiger.proofs.line.five_numbers.Goals as goal
 
-pub returns-in-default : goal.returns-in-default
+pub returns-in_default : goal.returns-in_default
 unfolding five_of
-returns-in-default c = search rules
+returns-in_default c = search rules
 
-pub returns-in-default-field : goal.returns-in-default-field
+pub returns-in_default-field : goal.returns-in_default-field
 unfolding five_of
-returns-in-default-field c = search rules
+returns-in_default-field c = search rules
 
-pub returns-in-default-field-2 : goal.returns-in-default-field-2
+pub returns-in_default-field-2 : goal.returns-in_default-field-2
 unfolding five_of
-returns-in-default-field-2 c = search rules
+returns-in_default-field-2 c = search rules
 
-pub returns-in-default-field-3 : goal.returns-in-default-field-3
+pub returns-in_default-field-3 : goal.returns-in_default-field-3
 unfolding five_of
-returns-in-default-field-3 c = search rules
+returns-in_default-field-3 c = search rules
 
-pub returns-in-default-number : goal.returns-in-default-number
+pub returns-in_default-number : goal.returns-in_default-number
 unfolding five_of
-returns-in-default-number c = search rules
+returns-in_default-number c = search rules
 
 pub returns : goal.returns
 unfolding five_of

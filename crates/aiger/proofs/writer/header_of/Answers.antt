@@ -3,22 +3,22 @@ use Rattle.circuit.proofs.Soundness.{Soundness, soundness}
 use Rattle.aiger.proofs.Writing.{inputs_length}
 use Rattle.aiger.proofs.writer.header_of.Goals as goal
 
-counted : (c : goal.After-used-inputs) → length c.used-inputs.result.now ≡ c.args.model.now.record.now.input_count
+counted : (c : goal.After-used_inputs) → length c.used_inputs.result.now ≡ c.args.model.now.record.now.input_count
 counted c =
     let m = c.args.model.now in
-    ap length c.used-inputs.ensures ∙ inputs_length m.record.now m.gates.now m.fit
+    ap length c.used_inputs.ensures ∙ inputs_length m.record.now m.gates.now m.fit
 
-pub overflow-cast-result : goal.overflow-cast-result
-overflow-cast-result c =
+pub overflow_cast-result : goal.overflow_cast-result
+overflow_cast-result c =
     let m = c.args.model.now in omega (arith, counted c, (soundness m.record.now m.gates.now m.fit).sizes.inputs)
 
-pub overflow-cast-result-2 : goal.overflow-cast-result-2
-overflow-cast-result-2 c =
+pub overflow_cast-result-2 : goal.overflow_cast-result-2
+overflow_cast-result-2 c =
     let m = c.args.model.now in omega (arith, (soundness m.record.now m.gates.now m.fit).sizes.latches)
 
-pub overflow-cast-result-3 : goal.overflow-cast-result-3
-overflow-cast-result-3 c =
+pub overflow_cast-result-3 : goal.overflow_cast-result-3
+overflow_cast-result-3 c =
     let m = c.args.model.now in omega (arith, (soundness m.record.now m.gates.now m.fit).sizes.gates)
 
 pub returns : goal.returns
-returns c = simp (c.used-inputs.ensures, inputs_length c.args.model.now.record.now c.args.model.now.gates.now c.args.model.now.fit, c.maximum.ensures, c.latches.ensures, c.gates.ensures)
+returns c = simp (c.used_inputs.ensures, inputs_length c.args.model.now.record.now c.args.model.now.gates.now c.args.model.now.fit, c.maximum.ensures, c.latches.ensures, c.gates.ensures)

@@ -10,13 +10,13 @@ pub returns-in-Some : goal.returns-in-Some
 returns-in-Some c =
     let s = c.args.solver.now in
     let t = c.in-Some.ensures in
-    let P : ℕ → Type 0 = λ n. drop (n + 1) c.write-values.new.values ≡ drop (n + 1) c.args.values.now in
+    let P : ℕ → Type 0 = λ n. drop (n + 1) c.write_values.new.values ≡ drop (n + 1) c.args.values.now in
     record {
       cases = (
-        written_solves s.variables (held s.table) c.args.assumed.now c.in-Some.table c.args.values.now c.write-values.new.values
-            s.ranged c.requires.ranged t.0 t.1 c.write-values.ensures.zero
-            (λ k p l. c.write-values.ensures.value k p (omega (arith, c.largest.ensures)))
-            (subst P c.largest.ensures c.write-values.ensures.rest),
+        written_solves s.variables (held s.table) c.args.assumed.now c.in-Some.table c.args.values.now c.write_values.new.values
+            s.ranged c.requires.ranged t.0 t.1 c.write_values.ensures.zero
+            (λ k p l. c.write_values.ensures.value k p (omega (arith, c.largest.ensures)))
+            (subst P c.largest.ensures c.write_values.ensures.rest),
         refl,
       );
       all = λ e. yes_is_not_no Yes refl e;
@@ -26,9 +26,9 @@ pub returns-in-None : goal.returns-in-None
 returns-in-None c =
     record {
       cases = (
-        refuted_all (held c.args.solver.now.table) c.args.assumed.now c.args.marks.now c.fill-front.new.bytes
-            c.requires.marks-room c.fill-front.ensures c.in-None.ensures,
+        refuted_all (held c.args.solver.now.table) c.args.assumed.now c.args.marks.now c.fill_front.new.bytes
+            c.requires.marks_room c.fill_front.ensures c.in-None.ensures,
         refl,
       );
-      all = λ e. front_at (length c.args.assumed.now) 1 c.args.marks.now c.fill-front.new.bytes c.requires.marks-room c.fill-front.ensures;
+      all = λ e. front_at (length c.args.assumed.now) 1 c.args.marks.now c.fill_front.new.bytes c.requires.marks_room c.fill_front.ensures;
     }

@@ -6,14 +6,14 @@ use Rattle.counting.proofs.cells.end_of.Goals as goal
 pub loop-init : goal.loop-init
 loop-init c = passed_none c.args.cells.now c.requires
 
-pub first-clause-requires : goal.first-clause-requires
-first-clause-requires c = c.loop.invariant.coded
+pub first_clause-requires : goal.first_clause-requires
+first_clause-requires c = c.loop.invariant.coded
 
 pub loop-preserved : goal.loop-preserved
 loop-preserved c = passed_more c.args.cells.now c.loop.rest.now _ c.in-Some.after.now c.loop.counter c.loop.invariant c.in-Some.ensures
 
-pub overflow-sub-result : goal.overflow-sub-result
-overflow-sub-result c = passed_within c.args.cells.now c.loop.rest.now c.loop.counter c.loop.invariant
+pub overflow_sub-result : goal.overflow_sub-result
+overflow_sub-result c = passed_within c.args.cells.now c.loop.rest.now c.loop.counter c.loop.invariant
 
 pub returns : goal.returns
 returns c =
@@ -24,9 +24,9 @@ returns c =
       front = passed_all c.args.cells.now c.loop.rest.now c.args.kept (subst P n c.loop.invariant);
     }
 
-pub returns-in-default : goal.returns-in-default
-returns-in-default c =
+pub returns-in_default : goal.returns-in_default
+returns-in_default c =
     record {
       within = omega arith;
-      front = passed_out c.args.cells.now c.loop.rest.now c.loop.counter c.args.kept c.loop.invariant c.in-default.ensures (omega arith);
+      front = passed_out c.args.cells.now c.loop.rest.now c.loop.counter c.args.kept c.loop.invariant c.in_default.ensures (omega arith);
     }

@@ -8,10 +8,10 @@ use Rattle.std.proofs.lemmas.Bool.Decides.{Decides-eqb}
 
 pub returns-then-eq : goal.returns-then-eq
 returns-then-eq c =
-    let d = slice_eq-Decides Decides-eqb c.in-ok-first.first.now c.args.wanted.now c.eq.result c.eq.ensures in
-    c.in-ok-first.ensures.0 ∙ ap (λ (w : List ℕ). w ∷ words c.in-ok-first.rest.now) (d.0 c.if-eq.true)
+    let d = slice_eq-Decides Decides-eqb c.in_ok-first.first.now c.args.wanted.now c.eq.result c.eq.ensures in
+    c.in_ok-first.ensures.0 ∙ ap (λ (w : List ℕ). w ∷ words c.in_ok-first.rest.now) (d.0 c.if-eq.true)
 
 pub returns-else-eq : goal.returns-else-eq
 returns-else-eq c ws e =
-    let d = slice_eq-Decides Decides-eqb c.in-ok-first.first.now c.args.wanted.now c.eq.result c.eq.ensures in
-    both_ways c.eq.result c.if-eq.false (d.1 (first_of _ _ _ _ _ c.in-ok-first.ensures.0 e))
+    let d = slice_eq-Decides Decides-eqb c.in_ok-first.first.now c.args.wanted.now c.eq.result c.eq.ensures in
+    both_ways c.eq.result c.if-eq.false (d.1 (first_of _ _ _ _ _ c.in_ok-first.ensures.0 e))

@@ -11,11 +11,11 @@ pub returns : goal.returns
 returns g c =
     let row = c.args.row in
     let ls = next_literals c.args.model.now.«record».now in
-    let few : length ls ≤ 32 = omega (arith, ap length c.next-of-next.ensures.value, c.next-of-next.ensures.bound) in
-    let these = mask_literals ls c.as-slice.result.now (literals_in c.none-inside.result) (literals_in c.push-cared.new.self) c.as-slice-2.result.now
-    row.care row.value (omega arith) (c.as-slice.ensures ∙ c.next-of-next.ensures.value ∙ sym (take_all 64 ls (omega arith)))
-    c.none-inside.ensures c.push-cared.ensures c.as-slice-2.ensures in
-    let guard = c.positive-of-entry.ensures ∙ ap positive (c.entry-variable.ensures ∙ ap (λ n. entry_variable n c.args.place) c.maximum-of.ensures.value) in
-    let e : map (implies c.positive-of-entry.result) c.as-slice-2.result.now ≡ entry_clauses c.args.model.now.«record».now row c.args.place =
-    ap (λ p. map (implies p) c.as-slice-2.result.now) guard ∙ ap (map (implies (positive (entry_variable c.args.model.now.«record».now.maximum c.args.place)))) these in
-    held_is _ _ _ _ _ _ _ _ _ e c.hold-each.ensures
+    let few : length ls ≤ 32 = omega (arith, ap length c.next_of-next.ensures.value, c.next_of-next.ensures.bound) in
+    let these = mask_literals ls c.as_slice.result.now (literals_in c.none-inside.result) (literals_in c.push_cared.new.self) c.as_slice-2.result.now
+    row.care row.value (omega arith) (c.as_slice.ensures ∙ c.next_of-next.ensures.value ∙ sym (take_all 64 ls (omega arith)))
+    c.none-inside.ensures c.push_cared.ensures c.as_slice-2.ensures in
+    let guard = c.positive_of-entry.ensures ∙ ap positive (c.entry_variable.ensures ∙ ap (λ n. entry_variable n c.args.place) c.maximum_of.ensures.value) in
+    let e : map (implies c.positive_of-entry.result) c.as_slice-2.result.now ≡ entry_clauses c.args.model.now.«record».now row c.args.place =
+    ap (λ p. map (implies p) c.as_slice-2.result.now) guard ∙ ap (map (implies (positive (entry_variable c.args.model.now.«record».now.maximum c.args.place)))) these in
+    held_is _ _ _ _ _ _ _ _ _ e c.hold_each.ensures

@@ -7,7 +7,7 @@ use Rattle.encoding.proofs.candidate.hold_outside.Goals as goal
 pub returns : goal.returns
 returns g c =
     let row = c.args.row in
-    let e : c.as-slice-2.result.now ∷ [] ≡ outside_clause c.args.model.now.«record».now row ∷ [] =
-    ap (λ t. t ∷ []) (c.as-slice-2.ensures ∙ c.outside-clause.ensures
-    ∙ ap (λ t. not_all (cared t row.care row.value)) (c.as-slice.ensures ∙ c.latches-of-latches.ensures.value)) in
-    held_is _ _ _ _ _ _ _ _ _ e c.hold-clause.ensures
+    let e : c.as_slice-2.result.now ∷ [] ≡ outside_clause c.args.model.now.«record».now row ∷ [] =
+    ap (λ t. t ∷ []) (c.as_slice-2.ensures ∙ c.outside-clause.ensures
+    ∙ ap (λ t. not_all (cared t row.care row.value)) (c.as_slice.ensures ∙ c.latches_of-latches.ensures.value)) in
+    held_is _ _ _ _ _ _ _ _ _ e c.hold_clause.ensures

@@ -6,22 +6,22 @@ use Rattle.encoding.specs.Clauses.{step_clauses, bad_clause, candidate_base}
 use Rattle.encoding.proofs.Holding.{then_is, stop_is}
 use Rattle.encoding.proofs.candidate.put_base.Goals as goal
 
-pub returns-in-err-hold-step : goal.returns-in-err-hold-step
+pub returns-in_err-hold_step : goal.returns-in_err-hold_step
 unfolding candidate_base
-returns-in-err-hold-step g c =
-    let p = err_from_is_err_and c.from-residual.result c.from-residual.ensures.1 in
+returns-in_err-hold_step g c =
+    let p = err_from_is_err_and c.from_residual.result c.from_residual.ensures.1 in
     rw (p.1, p.2)
-    (stop_is _ _ _ _ (step_clauses c.args.model.now.«record».now c.args.model.now.gates.now) (bad_clause c.args.model.now.«record».now ∷ []) _ _ _ _ refl c.in-err-hold-step.ensures)
+    (stop_is _ _ _ _ (step_clauses c.args.model.now.«record».now c.args.model.now.gates.now) (bad_clause c.args.model.now.«record».now ∷ []) _ _ _ _ refl c.in_err-hold_step.ensures)
 
 pub returns : goal.returns
 unfolding candidate_base
 returns g c =
     let step = step_clauses c.args.model.now.«record».now c.args.model.now.gates.now in
-    let M = c.maximum-of-maximum.result in
-    let due = c.negation.ensures.value ∙ ap negation_of (c.positive-of-due.ensures ∙ ap positive c.due-variable.ensures) in
-    let out = c.clause-literal-output.ensures ∙ ap (clause_literal M) c.output.ensures in
-    let e : step ++ (c.negation.result ∷ c.clause-literal-output.result ∷ []) ∷ [] ≡ candidate_base c.args.model.now.«record».now c.args.model.now.gates.now =
-    ap (λ l. step ++ (l ∷ c.clause-literal-output.result ∷ []) ∷ []) due
+    let M = c.maximum_of-maximum.result in
+    let due = c.negation.ensures.value ∙ ap negation_of (c.positive_of-due.ensures ∙ ap positive c.due_variable.ensures) in
+    let out = c.clause_literal-output.ensures ∙ ap (clause_literal M) c.output.ensures in
+    let e : step ++ (c.negation.result ∷ c.clause_literal-output.result ∷ []) ∷ [] ≡ candidate_base c.args.model.now.«record».now c.args.model.now.gates.now =
+    ap (λ l. step ++ (l ∷ c.clause_literal-output.result ∷ []) ∷ []) due
     ∙ ap (λ l. step ++ (negation_of (positive (due_variable M 0)) ∷ l ∷ []) ∷ []) out
-    ∙ ap (λ n. step ++ (negation_of (positive (due_variable n 0)) ∷ clause_literal n c.args.model.now.«record».now.output ∷ []) ∷ []) c.maximum-of-maximum.ensures.value in
-    then_is _ _ _ _ step _ _ _ ((c.negation.result ∷ c.clause-literal-output.result ∷ []) ∷ []) _ _ _ _ e c.in-ok-hold-step.ensures c.hold-clause.ensures
+    ∙ ap (λ n. step ++ (negation_of (positive (due_variable n 0)) ∷ clause_literal n c.args.model.now.«record».now.output ∷ []) ∷ []) c.maximum_of-maximum.ensures.value in
+    then_is _ _ _ _ step _ _ _ ((c.negation.result ∷ c.clause_literal-output.result ∷ []) ∷ []) _ _ _ _ e c.in_ok-hold_step.ensures c.hold_clause.ensures

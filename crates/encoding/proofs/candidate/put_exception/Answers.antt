@@ -14,13 +14,13 @@ returns g c =
     let x = c.args.exception in
     let ls = latch_literals c.args.model.now.«record».now in
     let es = side_literals Event c.args.model.now.«record».now in
-    let fewL : length ls ≤ 32 = omega (arith, ap length c.latches-of-latches.ensures.value, c.latches-of-latches.ensures.bound) in
-    let fewE : length es ≤ 12 = omega (arith, ap length c.inputs-of-events.ensures.value, c.inputs-of-events.ensures.bound) in
-    let first = mask_literals ls c.as-slice.result.now (literals_in c.none-inside.result) (literals_in c.push-cared.new.self) (literals_in c.push-cared.new.self)
-    x.state_care x.state_value (omega arith) (c.as-slice.ensures ∙ c.latches-of-latches.ensures.value ∙ sym (take_all 64 ls (omega arith)))
-    c.none-inside.ensures c.push-cared.ensures refl in
-    let all = masks_clause ls es ls c.as-slice-2.result.now (literals_in c.push-cared.new.self) (literals_in c.push-cared-2.new.self) c.as-slice-3.result.now
+    let fewL : length ls ≤ 32 = omega (arith, ap length c.latches_of-latches.ensures.value, c.latches_of-latches.ensures.bound) in
+    let fewE : length es ≤ 12 = omega (arith, ap length c.inputs_of-events.ensures.value, c.inputs_of-events.ensures.bound) in
+    let first = mask_literals ls c.as_slice.result.now (literals_in c.none-inside.result) (literals_in c.push_cared.new.self) (literals_in c.push_cared.new.self)
+    x.state_care x.state_value (omega arith) (c.as_slice.ensures ∙ c.latches_of-latches.ensures.value ∙ sym (take_all 64 ls (omega arith)))
+    c.none-inside.ensures c.push_cared.ensures refl in
+    let all = masks_clause ls es ls c.as_slice-2.result.now (literals_in c.push_cared.new.self) (literals_in c.push_cared-2.new.self) c.as_slice-3.result.now
     (literals_in c.negations-clause.result) x.state_care x.state_value x.event_care x.event_value (omega arith) first
-    (c.as-slice-2.ensures ∙ c.inputs-of-events.ensures.value ∙ sym (take_all 64 es (omega arith))) c.push-cared-2.ensures c.as-slice-3.ensures c.negations-clause.ensures in
-    let e : c.as-slice-4.result.now ∷ [] ≡ exception_clause c.args.model.now.«record».now x ∷ [] = ap (λ t. t ∷ []) (c.as-slice-4.ensures ∙ all) in
-    held_is _ _ _ _ _ _ _ _ _ e c.hold-clause.ensures
+    (c.as_slice-2.ensures ∙ c.inputs_of-events.ensures.value ∙ sym (take_all 64 es (omega arith))) c.push_cared-2.ensures c.as_slice-3.ensures c.negations-clause.ensures in
+    let e : c.as_slice-4.result.now ∷ [] ≡ exception_clause c.args.model.now.«record».now x ∷ [] = ap (λ t. t ∷ []) (c.as_slice-4.ensures ∙ all) in
+    held_is _ _ _ _ _ _ _ _ _ e c.hold_clause.ensures

@@ -4,26 +4,26 @@ use Rattle.encoding.specs.Clauses.{outside_clause, entry_clauses, choice_clause,
 use Rattle.encoding.proofs.Holding.{then_is, stop_is, held_then, held_stop}
 use Rattle.encoding.proofs.candidate.put_row.Goals as goal
 
-pub returns-in-err-hold-outside : goal.returns-in-err-hold-outside
+pub returns-in_err-hold_outside : goal.returns-in_err-hold_outside
 unfolding candidate_row
-returns-in-err-hold-outside g c =
-    let p = err_from_is_err_and c.from-residual.result c.from-residual.ensures.1 in
+returns-in_err-hold_outside g c =
+    let p = err_from_is_err_and c.from_residual.result c.from_residual.ensures.1 in
     rw (p.1, p.2)
     (stop_is _ _ _ _ (outside_clause c.args.model.now.«record».now c.args.row ∷ []) (entry_clauses c.args.model.now.«record».now c.args.row c.args.place ++ choice_clause c.args.model.now.«record».now c.args.place ∷ []) _ _ _ _ refl
-    c.in-err-hold-outside.ensures)
+    c.in_err-hold_outside.ensures)
 
-pub returns-in-err-hold-entries : goal.returns-in-err-hold-entries
+pub returns-in_err-hold_entries : goal.returns-in_err-hold_entries
 unfolding candidate_row
-returns-in-err-hold-entries g c =
-    let p = err_from_is_err_and c.from-residual-in-err-hold-entries.result c.from-residual-in-err-hold-entries.ensures.1 in
+returns-in_err-hold_entries g c =
+    let p = err_from_is_err_and c.from_residual-in_err-hold_entries.result c.from_residual-in_err-hold_entries.ensures.1 in
     rw (p.1, p.2)
     (then_is _ _ _ _ (outside_clause c.args.model.now.«record».now c.args.row ∷ []) _ _ _ (entry_clauses c.args.model.now.«record».now c.args.row c.args.place ++ choice_clause c.args.model.now.«record».now c.args.place ∷ []) _ _ _ _ refl
-    c.in-ok-hold-outside.ensures
-    (held_stop _ _ _ (entry_clauses c.args.model.now.«record».now c.args.row c.args.place) (choice_clause c.args.model.now.«record».now c.args.place ∷ []) _ _ _ _ c.in-err-hold-entries.ensures))
+    c.in_ok-hold_outside.ensures
+    (held_stop _ _ _ (entry_clauses c.args.model.now.«record».now c.args.row c.args.place) (choice_clause c.args.model.now.«record».now c.args.place ∷ []) _ _ _ _ c.in_err-hold_entries.ensures))
 
 pub returns : goal.returns
 unfolding candidate_row
 returns g c =
     then_is _ _ _ _ (outside_clause c.args.model.now.«record».now c.args.row ∷ []) _ _ _ (entry_clauses c.args.model.now.«record».now c.args.row c.args.place ++ choice_clause c.args.model.now.«record».now c.args.place ∷ []) _ _ _ _ refl
-    c.in-ok-hold-outside.ensures
-    (held_then _ _ _ (entry_clauses c.args.model.now.«record».now c.args.row c.args.place) _ _ _ (choice_clause c.args.model.now.«record».now c.args.place ∷ []) _ _ _ _ c.in-ok-hold-entries.ensures c.hold-choice.ensures)
+    c.in_ok-hold_outside.ensures
+    (held_then _ _ _ (entry_clauses c.args.model.now.«record».now c.args.row c.args.place) _ _ _ (choice_clause c.args.model.now.«record».now c.args.place ∷ []) _ _ _ _ c.in_ok-hold_entries.ensures c.hold_choice.ensures)

@@ -9,8 +9,8 @@ use Rattle.encoding.proofs.care.mask_of.Goals.{then-mark-eq1, else-mark-eq1}
 abbrev is_one : ℕ → Bool
 is_one m = eqb m 1
 
-pub overflow-add-care : goal.overflow-add-care
-overflow-add-care c =
+pub overflow_add-care : goal.overflow_add-care
+overflow_add-care c =
     let ms = c.args.marks.now in
     let more = from_more is_one ms c.loop-j.j 0 true c.loop-j-test.true (sym (eq-eqb _ 1 c.if-mark-eq1.true)) in
     let below = from_fits (map is_one ms) (omega (arith, length-map ms is_one, c.requires)) in

@@ -4,5 +4,5 @@ use Rattle.encoding.proofs.model_literals.latches_of.Goals as goal
 
 pub returns : goal.returns
 returns c =
-    let p = latches_filled c.args.model.now.«record».now c.args.model.now.gates.now c.args.model.now.fit (literals_in c.latch-literals.result) _ c.used-latches.ensures c.latch-literals.ensures in
+    let p = latches_filled c.args.model.now.«record».now c.args.model.now.gates.now c.args.model.now.fit (literals_in c.latch_literals.result) _ c.used_latches.ensures c.latch_literals.ensures in
     record { value = p.0; bound = p.1 }

@@ -3,9 +3,9 @@ use Rattle.sat.specs.Clauses.{byte_values}
 use Rattle.encoding.specs.Literals.{number_in}
 use Rattle.encoding.proofs.numbers.state_in.Goals as goal
 
-pub number-in-requires : goal.number-in-requires
-number-in-requires c = omega (arith, ap length c.as-slice.ensures, c.latches-of-latches.ensures.bound)
+pub number_in-requires : goal.number_in-requires
+number_in-requires c = omega (arith, ap length c.as_slice.ensures, c.latches_of-latches.ensures.bound)
 
 pub returns : goal.returns
 returns c =
-    c.number-in.ensures ∙ ap (number_in (byte_values c.args.values.now)) (c.as-slice.ensures ∙ c.latches-of-latches.ensures.value)
+    c.number_in.ensures ∙ ap (number_in (byte_values c.args.values.now)) (c.as_slice.ensures ∙ c.latches_of-latches.ensures.value)

@@ -7,7 +7,7 @@ use Rattle.encoding.proofs.picked.next_literals.Goals as goal
 
 pub loop-latch-preserved : goal.loop-latch-preserved
 loop-latch-preserved c =
-    put_more _ _ _ _ _ _ (c.push.ensures ∙ ap (λ x. take 64 (literals_in c.loop-latch.table ++ x ∷ [])) c.clause-literal.ensures)
+    put_more _ _ _ _ _ _ (c.push.ensures ∙ ap (λ x. take 64 (literals_in c.loop-latch.table ++ x ∷ [])) c.clause_literal.ensures)
     (at_drop_more (map (λ x. clause_literal c.args.maximum x.next)) c.args.latches.now c.loop-latch.latch-index _ c.loop-latch-test.true) c.loop-latch.invariant
 
 pub returns : goal.returns

@@ -7,6 +7,6 @@ use Rattle.game.proofs.covers.is_covered.Goals as goal
 
 pub returns : goal.returns
 returns c =
-    let e : c.is-some.result ≡ covered c.args.rows.now c.args.state =
-    c.is-some.ensures ∙ any_first (at c.args.state) c.args.rows.now c.first-covering.result c.first-covering.ensures.cases in
-    record { value = e; judges = judges c.args.rows.now c.args.state c.is-some.result e }
+    let e : c.is_some.result ≡ covered c.args.rows.now c.args.state =
+    c.is_some.ensures ∙ any_first (at c.args.state) c.args.rows.now c.first_covering.result c.first_covering.ensures.cases in
+    record { value = e; judges = judges c.args.rows.now c.args.state c.is_some.result e }

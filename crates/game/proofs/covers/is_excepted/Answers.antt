@@ -5,6 +5,6 @@ use Rattle.game.proofs.covers.is_excepted.Goals as goal
 
 pub returns : goal.returns
 returns c =
-    c.is-some.ensures
-    ∙ any_first (λ x. exception_covers x c.args.pair.state c.args.pair.event) c.args.exceptions.now c.first-covering.result
-    c.first-covering.ensures.cases
+    c.is_some.ensures
+    ∙ any_first (λ x. exception_covers x c.args.pair.state c.args.pair.event) c.args.exceptions.now c.first_covering.result
+    c.first_covering.ensures.cases

@@ -10,8 +10,8 @@ pub bounds-again-place : goal.bounds-again-place
 bounds-again-place c =
     omega (arith, c.requires.enough, sifted_place c.args.assumed.now c.args.first c.loop-i.i c.loop-i.place c.args.marks.now c.args.again.now c.loop-i.marks c.loop-i.invariant (omega arith) c.requires.room c.if-marks-i-eq1.true)
 
-pub overflow-add-place : goal.overflow-add-place
-overflow-add-place c =
+pub overflow_add-place : goal.overflow_add-place
+overflow_add-place c =
     let p : c.loop-i.place < length c.args.again.now =
     omega (arith, c.requires.enough, sifted_place c.args.assumed.now c.args.first c.loop-i.i c.loop-i.place c.args.marks.now c.args.again.now c.loop-i.marks c.loop-i.invariant (omega arith) c.requires.room c.if-marks-i-eq1.true) in
     record { fits = omega arith }

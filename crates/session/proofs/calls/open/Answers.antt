@@ -8,4 +8,4 @@ use Rattle.session.proofs.calls.open.Goals as goal
 pub returns : goal.returns
 returns c =
     let r = c.args.region.now in
-    record { value = ap waiting_stage c.at-reset.ensures; law = law (arena_in r) (region_playable r) (rows_in r) (region_exact r) }
+    record { value = ap waiting_stage c.at_reset.ensures; law = law (arena_in r) (region_playable r) (rows_in r) (region_exact r) }

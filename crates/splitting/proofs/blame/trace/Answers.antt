@@ -9,7 +9,7 @@ use Rattle.splitting.proofs.blame.trace.Goals.{in-Open, in-Turned, in-Forced}
 pub loop-i-init : goal.loop-i-init
 loop-i-init c =
     let q = c.requires.clash.0 in
-    let r = c.clause-at.ensures.value q.number q.starts in
+    let r = c.clause_at.ensures.value q.number q.starts in
     let P : List ℕ → Type 0 = λ x. (k : ℕ) → k < length x → Seen c.see.new.seen (get_or x k 0) in (
       omega arith,
       c.requires.sizes.1.1,
@@ -39,17 +39,17 @@ loop-i-preserved c =
     let stays : (v : ℕ) → 1 ≤ get_or seen v 0 → 1 ≤ get_or seen v 0 = λ v h. h in
     let x = get_or seen (get_or trail p 0 / 2) 0 in
     elim c.match-of.branch [
-      | in-Open w ↦ walk_again cells trail reason c.see.new.seen seen seen c.match-of.seen base n p (at_open b p (not (eqb x 0))) c.match-of.blame lo hi apart stays w.seen-is (w.blame-is ∙ w.at-open-blame.ensures)
+      | in-Open w ↦ walk_again cells trail reason c.see.new.seen seen seen c.match-of.seen base n p (at_open b p (not (eqb x 0))) c.match-of.blame lo hi apart stays w.seen-is (w.blame-is ∙ w.at_open-blame.ensures)
           c.loop-i.invariant.4 (open_step cells trail reason seen seen base p apart stays b n (not (eqb x 0)) (is_seen x) lo hi w.in-Open.ensures.0 old at)
-      | in-Turned w ↦ walk_again cells trail reason c.see.new.seen seen seen c.match-of.seen base n p (at_turned b (not (eqb x 0))) c.match-of.blame lo hi apart stays w.seen-is (w.blame-is ∙ w.at-turned-blame.ensures)
+      | in-Turned w ↦ walk_again cells trail reason c.see.new.seen seen seen c.match-of.seen base n p (at_turned b (not (eqb x 0))) c.match-of.blame lo hi apart stays w.seen-is (w.blame-is ∙ w.at_turned-blame.ensures)
           c.loop-i.invariant.4
           (turned_step cells trail reason seen seen base p apart stays b n (not (eqb x 0)) (is_seen x) lo w.in-Turned.ensures
           (λ m d st op. c.requires.follows p lo hi w.in-Turned.ensures m d (λ j q s. st j q (c.loop-i.invariant.4 j q (c.see.ensures.grows _ s))) op) old at)
       | in-Forced w ↦
           (let r = c.requires.reasons p lo hi w.in-Forced.ensures.0 w.in-Forced.ensures.1 in
           let S : ℕ → Type 0 = λ y. Starts cells y r.number in
-          walk_again cells trail reason c.see.new.seen seen w.see-reason.new.seen c.match-of.seen base n p b c.match-of.blame lo hi apart w.see-reason.ensures.grows w.seen-is w.blame-is
+          walk_again cells trail reason c.see.new.seen seen w.see_reason.new.seen c.match-of.seen base n p b c.match-of.blame lo hi apart w.see_reason.ensures.grows w.seen-is w.blame-is
           c.loop-i.invariant.4
-          (forced_step cells trail reason seen w.see-reason.new.seen base p apart w.see-reason.ensures.grows b n r.number w.in-Forced.ensures.0 r.forces
-          (λ s. w.see-reason.ensures.marked s r.number (subst S (sym w.in-Forced.ensures.2) r.starts)) old at))
+          (forced_step cells trail reason seen w.see_reason.new.seen base p apart w.see_reason.ensures.grows b n r.number w.in-Forced.ensures.0 r.forces
+          (λ s. w.see_reason.ensures.marked s r.number (subst S (sym w.in-Forced.ensures.2) r.starts)) old at))
     ]

@@ -2,8 +2,8 @@ use Rattle.std.proofs.Common.{arith, rules}
 use Rattle.splitting.proofs.Steps.{step, part_length, part_reads}
 use Rattle.splitting.proofs.clause.clause_at.Goals as goal
 
-pub slice-bounds-result-end : goal.slice-bounds-result-end
-slice-bounds-result-end c = let s = step c.args.cells.now c.args.at c.requires.starts.number c.requires.starts.starts c.requires.inside in search rules
+pub slice_bounds-result-end : goal.slice_bounds-result-end
+slice_bounds-result-end c = let s = step c.args.cells.now c.args.at c.requires.starts.number c.requires.starts.starts c.requires.inside in search rules
 
 pub returns : goal.returns
 returns c =

@@ -5,8 +5,8 @@ use Rattle.splitting.specs.Cells.{codes}
 use Rattle.splitting.proofs.Givens.{code_at, length_codes}
 use Rattle.splitting.proofs.write.write_marks.Goals as goal
 
-pub offset-bounds-seen-variable : goal.offset-bounds-seen-variable
-offset-bounds-seen-variable c =
+pub offset_bounds-seen-variable : goal.offset_bounds-seen-variable
+offset_bounds-seen-variable c =
     let i = c.loop-k.k in
     let ls = c.args.assumed.now in
     let h : i < length (codes ls) = omega (arith, length_codes ls, c.loop-k-test.true) in
@@ -25,13 +25,13 @@ pub loop-k-preserved : goal.loop-k-preserved
 loop-k-preserved c =
     let i = c.loop-k.k in
     let xs = c.loop-k.marks in
-    let b = c.bit-of.result in
+    let b = c.bit_of.result in
     let ls = c.args.assumed.now in
     let seen = c.args.seen.now in
     let lt : i < length xs = omega (arith, c.loop-k.auto.marks, c.requires.room) in
     let v : c.variable.result ≡ get_or (codes ls) i 0 / 2 = c.variable.ensures ∙ ap (λ x. x / 2) (sym (code_at ls i c.loop-k-test.true)) in (
       λ j h. elim (cases_eq j i) [
-        | inl e ↦ (ap (λ x. get_or (set xs i b) x 0) e ∙ get_or-set_same xs i b 0 lt ∙ c.bit-of.ensures ∙ ap (λ x. cond (eqb (get_or seen x 0) 0) 0 1) (v ∙ ap (λ x. get_or (codes ls) x 0 / 2) (sym e)))
+        | inl e ↦ (ap (λ x. get_or (set xs i b) x 0) e ∙ get_or-set_same xs i b 0 lt ∙ c.bit_of.ensures ∙ ap (λ x. cond (eqb (get_or seen x 0) 0) 0 1) (v ∙ ap (λ x. get_or (codes ls) x 0 / 2) (sym e)))
         | inr e ↦ (get_or-set_other xs i j b 0 e ∙ c.loop-k.invariant.0 j (omega (arith, e)))
       ],
       drop-set-lt (length ls) xs i b (omega arith) ∙ c.loop-k.invariant.1,

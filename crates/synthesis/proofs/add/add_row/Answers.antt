@@ -11,8 +11,8 @@ use Rattle.synthesis.proofs.Adding.{used_few, laid_same, row_cells, answer_cells
 use Rattle.synthesis.proofs.Growing.{rows_fit, candidate_keep, fixed_within}
 use Rattle.synthesis.proofs.add.add_row.Goals as goal
 
-pub fixed-clauses-fixed-requires : goal.fixed-clauses-fixed-requires
-fixed-clauses-fixed-requires g c =
+pub fixed_clauses-fixed-requires : goal.fixed_clauses-fixed-requires
+fixed_clauses-fixed-requires g c =
     let r = c.args.model.now.«record».now in
     let gs = c.args.model.now.gates.now in
     let P : List Row → Type 0 = λ is. All (RowFits r) is in
@@ -29,14 +29,14 @@ returns-in-Err g c =
         laid_same _ _ c.args.rows.now _ c.args.exceptions.now _ c.requires.turning.laid n.used n.places refl,
         rows_full _ _ _ _ c.args.rows.now c.args.exceptions.now _ _ c.requires.turning c.append.new.self c.count-place.result n.full n.used c.count-place.ensures c.requires.due,
       );
-      same-variables = refl;
-      same-cells = refl;
-      same-answer-variables = refl;
-      same-answer-cells = refl;
+      same_variables = refl;
+      same_cells = refl;
+      same_answer_variables = refl;
+      same_answer_cells = refl;
     }
 
-pub hold-row-requires : goal.hold-row-requires
-hold-row-requires g c =
+pub hold_row-requires : goal.hold_row-requires
+hold_row-requires g c =
     let m = c.args.model.now in
     let r = m.«record».now in
     let gs = m.gates.now in
@@ -44,9 +44,9 @@ hold-row-requires g c =
     let R = length (table_of c.args.rows.now) in
     let E = length (table_of c.args.exceptions.now) in
     let xs = items_of c.args.exceptions.now in
-    let k : c.fixed-clauses-fixed.result ≡ length (fixed_clauses r gs items) =
-    c.fixed-clauses-fixed.ensures ∙ ap (λ is. length (fixed_clauses r gs is)) c.items.ensures in
-    let free : length items < R = c.in-default.ensures.cases.free in
+    let k : c.fixed_clauses-fixed.result ≡ length (fixed_clauses r gs items) =
+    c.fixed_clauses-fixed.ensures ∙ ap (λ is. length (fixed_clauses r gs is)) c.items.ensures in
+    let free : length items < R = c.in_default.ensures.cases.free in
     let place = c.count-place.ensures in
     let held = c.requires.turning.candidate in
     let V = g.C.Solver.variable_count c.args.candidate.now in
@@ -57,42 +57,42 @@ hold-row-requires g c =
       placed = omega (arith, c.requires.room.few_rows);
       kept = (let h = ap length held in let w = fixed_within r gs items xs in omega arith);
       variables = omega (arith, c.requires.room.candidate_variables);
-      cells = (let e = ap (λ cs. cells_of (take c.fixed-clauses-fixed.result cs)) held ∙ ap cells_of (candidate_keep r gs items xs c.fixed-clauses-fixed.result k) in
+      cells = (let e = ap (λ cs. cells_of (take c.fixed_clauses-fixed.result cs)) held ∙ ap cells_of (candidate_keep r gs items xs c.fixed_clauses-fixed.result k) in
           let room = row_cells r gs m.fit R E V cells W cellsW c.requires.room items xs free in omega arith);
-      answer-variables = c.requires.room.answer_variables;
+      answer_variables = c.requires.room.answer_variables;
       answer_cells_lem = (let e = ap cells_of c.requires.turning.answer in
           let room = answer_cells_lem r gs m.fit R E V cells W cellsW c.requires.room items xs free in omega arith);
     }
 
 pub returns-then-covers : goal.returns-then-covers
 returns-then-covers g c =
-    let n = c.in-default.ensures.cases in
+    let n = c.in_default.ensures.cases in
     record {
       after = (
         row_laid _ _ _ _ c.args.rows.now c.args.exceptions.now _ _ c.requires.turning c.args.row c.requires.good c.append.new.self c.clear.new.self n.free n.used n.places c.clear.ensures.items c.clear.ensures.table,
         row_lost _ _ _ _ c.args.rows.now c.args.exceptions.now _ _ c.requires.turning c.args.row c.requires.good c.append.new.self c.clear.new.self n.free n.used n.places c.clear.ensures.items c.clear.ensures.table (sym c.covers.ensures.value ∙ c.if-covers.true),
       );
-      same-variables = c.hold-row.ensures.same-variables;
-      same-cells = c.hold-row.ensures.same-cells;
-      same-answer-variables = c.hold-row.ensures.same-answer-variables;
-      same-answer-cells = c.hold-row.ensures.same-answer-cells;
+      same_variables = c.hold_row.ensures.same_variables;
+      same_cells = c.hold_row.ensures.same_cells;
+      same_answer_variables = c.hold_row.ensures.same_answer_variables;
+      same_answer_cells = c.hold_row.ensures.same_answer_cells;
     }
 
 pub returns-else-covers : goal.returns-else-covers
 returns-else-covers g c =
-    let n = c.in-default.ensures.cases in
+    let n = c.in_default.ensures.cases in
     let m = c.args.model.now in
     let r = m.«record».now in
     let gs = m.gates.now in
-    let k : c.fixed-clauses-fixed.result ≡ length (fixed_clauses r gs (items_of c.args.rows.now)) =
-    c.fixed-clauses-fixed.ensures ∙ ap (λ is. length (fixed_clauses r gs is)) c.items.ensures in
+    let k : c.fixed_clauses-fixed.result ≡ length (fixed_clauses r gs (items_of c.args.rows.now)) =
+    c.fixed_clauses-fixed.ensures ∙ ap (λ is. length (fixed_clauses r gs is)) c.items.ensures in
     record {
       after = row_turning _ _ _ _ c.args.rows.now c.args.exceptions.now _ _ c.requires.turning c.args.row c.requires.good c.append.new.self c.clear.new.self n.free n.used n.places c.clear.ensures.items c.clear.ensures.table
-          _ _ c.fixed-clauses-fixed.result k (sym c.covers.ensures.value ∙ c.if-covers.false)
-          (c.hold-row.ensures.after ∙ ap (λ p. take c.fixed-clauses-fixed.result (g.C.Solver.clauses c.args.candidate.now) ++ candidate_row r c.args.row p) c.count-place.ensures)
-          c.hold-row.ensures.after-answer;
-      same-variables = c.hold-row.ensures.same-variables;
-      same-cells = c.hold-row.ensures.same-cells;
-      same-answer-variables = c.hold-row.ensures.same-answer-variables;
-      same-answer-cells = c.hold-row.ensures.same-answer-cells;
+          _ _ c.fixed_clauses-fixed.result k (sym c.covers.ensures.value ∙ c.if-covers.false)
+          (c.hold_row.ensures.after ∙ ap (λ p. take c.fixed_clauses-fixed.result (g.C.Solver.clauses c.args.candidate.now) ++ candidate_row r c.args.row p) c.count-place.ensures)
+          c.hold_row.ensures.after_answer;
+      same_variables = c.hold_row.ensures.same_variables;
+      same_cells = c.hold_row.ensures.same_cells;
+      same_answer_variables = c.hold_row.ensures.same_answer_variables;
+      same_answer_cells = c.hold_row.ensures.same_answer_cells;
     }

@@ -9,6 +9,6 @@ returns g c =
     record {
       ok = ok;
       after = kept_none _ _ c.keep.result ok c.keep.ensures.after;
-      same-variables = c.keep.ensures.same-variables;
-      same-cells = c.keep.ensures.same-cells;
+      same_variables = c.keep.ensures.same_variables;
+      same_cells = c.keep.ensures.same_cells;
     }

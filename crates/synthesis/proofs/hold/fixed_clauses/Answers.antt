@@ -6,11 +6,11 @@ use Rattle.synthesis.proofs.Sizing.{bounds}
 use Rattle.synthesis.proofs.Counting.{count_none, count_more, count_all, few_bits}
 use Rattle.synthesis.proofs.hold.fixed_clauses.Goals as goal
 
-pub overflow-mul-count : goal.overflow-mul-count
-overflow-mul-count c = let b = bounds c.args.model.now in record { fits = omega (arith, c.gates.ensures) }
+pub overflow_mul-count : goal.overflow_mul-count
+overflow_mul-count c = let b = bounds c.args.model.now in record { fits = omega (arith, c.gates.ensures) }
 
-pub overflow-add-count : goal.overflow-add-count
-overflow-add-count c = let b = bounds c.args.model.now in record { fits = omega (arith, c.gates.ensures) }
+pub overflow_add-count : goal.overflow_add-count
+overflow_add-count c = let b = bounds c.args.model.now in record { fits = omega (arith, c.gates.ensures) }
 
 pub loop-row-init : goal.loop-row-init
 loop-row-init c =

@@ -6,32 +6,32 @@ use Rattle.synthesis.proofs.Adding.{used_few}
 use Rattle.synthesis.proofs.Turns.{room_same, turning_same, turn_kept, turn_due, turn_row, turn_good, turn_refuted, turn_exception, found_none, found_some, replied_row, replied_answer, candidate_at}
 use Rattle.synthesis.proofs.turn.turn.Goals as goal
 
-pub returns-in-err-found : goal.returns-in-err-found
-returns-in-err-found g c = absurd c.in-err-found.ensures.cases
+pub returns-in_err-found : goal.returns-in_err-found
+returns-in_err-found g c = absurd c.in_err-found.ensures.cases
 
-pub returns-in-default : goal.returns-in-default
-returns-in-default g c =
+pub returns-in_default : goal.returns-in_default
+returns-in_default g c =
     let m = c.args.model.now in
     record {
       after = (
         c.requires.turning.laid,
         turn_kept m.«record».now m.gates.now m.fit _ _ c.args.rows.now c.args.exceptions.now _ _ c.requires.turning c.count-place.result c.count-place.ensures
-            (found_none m.«record».now c.count-place.result (g.C.Solver.clauses c.args.candidate.now) c.in-ok-found.found c.in-default.is c.in-ok-found.ensures.cases),
+            (found_none m.«record».now c.count-place.result (g.C.Solver.clauses c.args.candidate.now) c.in_ok-found.found c.in_default.is c.in_ok-found.ensures.cases),
       );
-      same-variables = c.find-pair.ensures.same-variables;
-      same-cells = c.find-pair.ensures.same-cells;
-      same-answer-variables = refl;
-      same-answer-cells = refl;
+      same_variables = c.find_pair.ensures.same_variables;
+      same_cells = c.find_pair.ensures.same_cells;
+      same_answer_variables = refl;
+      same_answer_cells = refl;
     }
 
-pub returns-in-err-reply : goal.returns-in-err-reply
-returns-in-err-reply g c = absurd c.in-err-reply.ensures.cases
+pub returns-in_err-reply : goal.returns-in_err-reply
+returns-in_err-reply g c = absurd c.in_err-reply.ensures.cases
 
 pub returns-in-err-exception : goal.returns-in-err-exception
 returns-in-err-exception g c = absurd c.in-err-exception.ensures.cases
 
-pub add-row-requires : goal.add-row-requires
-add-row-requires g c =
+pub add_row-requires : goal.add_row-requires
+add_row-requires g c =
     let m = c.args.model.now in
     let r = m.«record».now in
     let gs = m.gates.now in
@@ -44,17 +44,17 @@ add-row-requires g c =
     let t = c.requires.turning in
     let p = c.in-Some.pair in
     let n = c.count-place.result in
-    let d = turn_due r gs m.fit R E rows xs held heldA t n p c.count-place.ensures (found_some r n held c.in-ok-found.found p c.in-Some.is c.in-ok-found.ensures.cases) in
-    let w = turn_row r gs m.fit R E rows xs held heldA t p d c.in-Unanswered.row (replied_row r heldA p.state p.event c.in-ok-reply.reply c.in-Unanswered.row c.in-Unanswered.is c.in-ok-reply.ensures.cases) in
+    let d = turn_due r gs m.fit R E rows xs held heldA t n p c.count-place.ensures (found_some r n held c.in_ok-found.found p c.in-Some.is c.in_ok-found.ensures.cases) in
+    let w = turn_row r gs m.fit R E rows xs held heldA t p d c.in-Unanswered.row (replied_row r heldA p.state p.event c.in_ok-reply.reply c.in-Unanswered.row c.in-Unanswered.is c.in_ok-reply.ensures.cases) in
     record {
-      room = room_same r R E _ _ _ _ _ _ _ _ c.requires.room c.find-pair.ensures.same-variables c.find-pair.ensures.same-cells c.find-answer.ensures.same-variables c.find-answer.ensures.same-cells;
-      turning = turning_same r gs m.fit R E rows xs held heldA t _ _ c.find-pair.ensures.same c.find-answer.ensures.same;
+      room = room_same r R E _ _ _ _ _ _ _ _ c.requires.room c.find_pair.ensures.same_variables c.find_pair.ensures.same_cells c.find_answer.ensures.same_variables c.find_answer.ensures.same_cells;
+      turning = turning_same r gs m.fit R E rows xs held heldA t _ _ c.find_pair.ensures.same c.find_answer.ensures.same;
       good = w.0;
       due = w.1;
     }
 
-pub find-exception-requires : goal.find-exception-requires
-find-exception-requires g c =
+pub find_exception-requires : goal.find_exception-requires
+find_exception-requires g c =
     let m = c.args.model.now in
     let r = m.«record».now in
     let gs = m.gates.now in
@@ -67,22 +67,22 @@ find-exception-requires g c =
     let t = c.requires.turning in
     let p = c.in-Some.pair in
     let n = c.count-place.result in
-    let d = turn_due r gs m.fit R E rows xs held heldA t n p c.count-place.ensures (found_some r n held c.in-ok-found.found p c.in-Some.is c.in-ok-found.ensures.cases) in
+    let d = turn_due r gs m.fit R E rows xs held heldA t n p c.count-place.ensures (found_some r n held c.in_ok-found.found p c.in-Some.is c.in_ok-found.ensures.cases) in
     let a = c.in-Answered.given in
-    let ok = turn_good r gs m.fit R E rows xs held heldA t p d a (replied_answer r heldA p.state p.event c.in-ok-reply.reply a c.in-Answered.is c.in-ok-reply.ensures.cases) in
+    let ok = turn_good r gs m.fit R E rows xs held heldA t p d a (replied_answer r heldA p.state p.event c.in_ok-reply.reply a c.in-Answered.is c.in_ok-reply.ensures.cases) in
     let P : List Clause → Type 0 = λ cs. Unsatisfiable cs (exception_asked r p.state p.event a n) in
     let few = used_few rows in
     let count = c.count-place.ensures in
-    let same = c.find-pair.ensures.same-variables in
+    let same = c.find_pair.ensures.same_variables in
     record {
       few = omega (arith, c.requires.room.few_rows);
       variables = omega (arith, c.requires.room.candidate_variables);
-      room = omega (arith, c.requires.candidate-work, c.find-pair.auto.work, c.find-answer.auto.work);
-      none = subst P (sym c.find-pair.ensures.same) (turn_refuted r gs m.fit R E rows xs held heldA t p d a ok.0 ok.1 n count);
+      room = omega (arith, c.requires.candidate_work, c.find_pair.auto.work, c.find_answer.auto.work);
+      none = subst P (sym c.find_pair.ensures.same) (turn_refuted r gs m.fit R E rows xs held heldA t p d a ok.0 ok.1 n count);
     }
 
-pub add-exception-requires : goal.add-exception-requires
-add-exception-requires g c =
+pub add_exception-requires : goal.add_exception-requires
+add_exception-requires g c =
     let m = c.args.model.now in
     let r = m.«record».now in
     let gs = m.gates.now in
@@ -95,15 +95,15 @@ add-exception-requires g c =
     let t = c.requires.turning in
     let p = c.in-Some.pair in
     let n = c.count-place.result in
-    let d = turn_due r gs m.fit R E rows xs held heldA t n p c.count-place.ensures (found_some r n held c.in-ok-found.found p c.in-Some.is c.in-ok-found.ensures.cases) in
+    let d = turn_due r gs m.fit R E rows xs held heldA t n p c.count-place.ensures (found_some r n held c.in_ok-found.found p c.in-Some.is c.in_ok-found.ensures.cases) in
     let a = c.in-Answered.given in
-    let ok = turn_good r gs m.fit R E rows xs held heldA t p d a (replied_answer r heldA p.state p.event c.in-ok-reply.reply a c.in-Answered.is c.in-ok-reply.ensures.cases) in
-    let w = turn_exception r gs m.fit R E rows xs held heldA t p d a ok.0 ok.1 n c.count-place.ensures c.in-ok-exception.exception
-    (candidate_at r _ held p.state p.event a n c.in-ok-exception.exception c.find-pair.ensures.same c.in-ok-exception.ensures.cases) in
+    let ok = turn_good r gs m.fit R E rows xs held heldA t p d a (replied_answer r heldA p.state p.event c.in_ok-reply.reply a c.in-Answered.is c.in_ok-reply.ensures.cases) in
+    let w = turn_exception r gs m.fit R E rows xs held heldA t p d a ok.0 ok.1 n c.count-place.ensures c.in_ok-exception-in-Answered.exception
+    (candidate_at r _ held p.state p.event a n c.in_ok-exception-in-Answered.exception c.find_pair.ensures.same c.in_ok-exception-in-Answered.ensures.cases) in
     record {
-      room = room_same r R E _ _ _ _ _ _ _ _ c.requires.room (c.find-exception.ensures.same-variables ∙ c.find-pair.ensures.same-variables) (c.find-exception.ensures.same-cells ∙ c.find-pair.ensures.same-cells)
-          c.find-answer.ensures.same-variables c.find-answer.ensures.same-cells;
-      turning = turning_same r gs m.fit R E rows xs held heldA t _ _ (c.find-exception.ensures.same ∙ c.find-pair.ensures.same) c.find-answer.ensures.same;
+      room = room_same r R E _ _ _ _ _ _ _ _ c.requires.room (c.find_exception.ensures.same_variables ∙ c.find_pair.ensures.same_variables) (c.find_exception.ensures.same_cells ∙ c.find_pair.ensures.same_cells)
+          c.find_answer.ensures.same_variables c.find_answer.ensures.same_cells;
+      turning = turning_same r gs m.fit R E rows xs held heldA t _ _ (c.find_exception.ensures.same ∙ c.find_pair.ensures.same) c.find_answer.ensures.same;
       good = w.0;
       due = w.1;
     }

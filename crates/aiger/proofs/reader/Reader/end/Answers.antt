@@ -6,6 +6,6 @@ pub returns-in-Symbols : goal.returns-in-Symbols
 unfolding end_on
 returns-in-Symbols c = search rules
 
-pub returns-in-default : goal.returns-in-default
+pub returns-in_default : goal.returns-in_default
 unfolding end_on
-returns-in-default c = search rules
+returns-in_default c = search rules

@@ -6,9 +6,9 @@ pub returns-then-over : goal.returns-then-over
 unfolding gate_on
 returns-then-over c = search rules
 
-pub returns-in-err-check-fresh : goal.returns-in-err-check-fresh
+pub returns-in_err-check_fresh : goal.returns-in_err-check_fresh
 unfolding gate_on
-returns-in-err-check-fresh c = search rules
+returns-in_err-check_fresh c = search rules
 
 pub returns-then-not-knows : goal.returns-then-not-knows
 unfolding gate_on

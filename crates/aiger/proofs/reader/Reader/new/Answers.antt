@@ -5,4 +5,4 @@ use Rattle.aiger.proofs.reader.Reader.new.Goals as goal
 
 pub returns : goal.returns
 unfolding start_of
-returns c = c.leave-inputs.ensures ∙ ap (λ (b : Record). leave_inputs (start_from b c.args.header)) c.blank-model.ensures
+returns c = c.leave_inputs.ensures ∙ ap (λ (b : Record). leave_inputs (start_from b c.args.header)) c.blank-model.ensures

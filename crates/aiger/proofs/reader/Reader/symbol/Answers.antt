@@ -14,13 +14,13 @@ pub returns-then-position-ne0 : goal.returns-then-position-ne0
 unfolding symbol_on
 returns-then-position-ne0 c = search rules
 
-pub returns-then-is-controllable : goal.returns-then-is-controllable
+pub returns-then-is_controllable : goal.returns-then-is_controllable
 unfolding symbol_on
-returns-then-is-controllable c = search rules
+returns-then-is_controllable c = search rules
 
-pub returns-else-is-controllable : goal.returns-else-is-controllable
+pub returns-else-is_controllable : goal.returns-else-is_controllable
 unfolding symbol_on
-returns-else-is-controllable c = search rules
+returns-else-is_controllable c = search rules
 
 pub returns-else-self-position-2 : goal.returns-else-self-position-2
 unfolding symbol_on

@@ -34,18 +34,18 @@ pub returns-in-Comment-default : goal.returns-in-Comment-default
 unfolding advance
 returns-in-Comment-default c = search rules
 
-pub returns-in-default : goal.returns-in-default
+pub returns-in_default : goal.returns-in_default
 unfolding advance
-returns-in-default c = search rules
+returns-in_default c = search rules
 
-pub returns-in-default·2 : goal.returns-in-default·2
+pub returns-in_default-2 : goal.returns-in_default-2
 unfolding advance
-returns-in-default·2 c = search rules
+returns-in_default-2 c = search rules
 
-pub returns-in-default·3 : goal.returns-in-default·3
+pub returns-in_default-3 : goal.returns-in_default-3
 unfolding advance
-returns-in-default·3 c = search rules
+returns-in_default-3 c = search rules
 
-pub returns-in-default·4 : goal.returns-in-default·4
+pub returns-in_default-4 : goal.returns-in_default-4
 unfolding advance
-returns-in-default·4 c = search rules
+returns-in_default-4 c = search rules

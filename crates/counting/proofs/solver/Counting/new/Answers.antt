@@ -7,14 +7,14 @@ use Rattle.counting.proofs.Written.{sizes_few}
 use Rattle.counting.proofs.solver.Counting.new.Goals as goal
 use Rattle.counting.proofs.solver.Counting.new.Goals.{in-Ok, in-Err}
 
-pub invariant-of-result : goal.invariant-of-result
-invariant-of-result c =
+pub invariant_of-result : goal.invariant_of-result
+invariant_of-result c =
     let f = (fit_none c.match-check.cells.1 (used_cells c.new-table.result) c.new-table.ensures.cells).0 in
     let few : c.match-check.cells.1 ≤ 20 = elim c.match-check.branch [
       | in-Ok w ↦ omega (arith, ap (λ x. x.1) w.cells-is, sizes_few (length c.args.numbers.now) c.args.variables w.in-Ok.ensures)
       | in-Err w ↦ omega (arith, ap (λ x. x.1) w.cells-is)
     ] in
-    (omega (arith, c.new-table.ensures.used), (f.coded, (f.small, (f.counted, (f.ranged, (few, tt))))))
+    record { within = omega (arith, c.new-table.ensures.used); coded = f.coded; small = f.small; counted = f.counted; ranged = f.ranged; few = few }
 
 pub returns : goal.returns
 returns c =

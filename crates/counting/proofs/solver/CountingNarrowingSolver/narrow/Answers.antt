@@ -1,19 +1,20 @@
-use Rattle.std.proofs.Common.{◌+◌, sym, refl, ap, ◌∙◌, arith}
+use Rattle.std.proofs.Common.{◌≡◌, ◌+◌, rules, sym, refl, ap, ◌∙◌, arith}
 use Rattle.counting.specs.Held.{held}
 use Rattle.sat.specs.Answers.{zeroed}
+use Rattle.sat.specs.declared.answer.Answer.TheVariants.{No}
 use Rattle.sat.proofs.Decisions.{decided_no, narrowly_no, narrowed_from, zeroed_all}
 use Rattle.sat.proofs.Checks.{narrow_none}
 use Rattle.counting.proofs.solver.CountingNarrowingSolver.narrow.Goals as goal
 
 pub answer-found-requires : goal.answer-found-requires
 answer-found-requires c =
-    let p = (narrow_none _ _ _ _ _ (sym c.in-ok-check-narrow.ensures)).0 in
-    record { ranged = p.ranged; room = p.values_fit; marks-room = p.marks_fit }
+    let p = (narrow_none _ _ _ _ _ (sym c.in_ok-check_narrow.ensures)).0 in
+    record { ranged = p.ranged; room = p.values_fit; marks_room = p.marks_fit }
 
-pub narrow-marks-requires : goal.narrow-marks-requires
-narrow-marks-requires c =
-    let p = narrow_none _ _ _ _ _ (sym c.in-ok-check-narrow.ensures) in
-    let a = c.if-eq.ensures in
+pub narrow_marks-requires : goal.narrow_marks-requires
+narrow_marks-requires c =
+    let p = narrow_none _ _ _ _ _ (sym c.in_ok-check_narrow.ensures) in
+    let a : c.answer-found.result ≡ No = search rules in
     let d = decided_no _ _ _ _ _ _ _ _ c.answer-found.ensures.cases a in
     record {
       ranged = p.0.ranged;
@@ -26,17 +27,18 @@ narrow-marks-requires c =
 
 pub returns-then-eq : goal.returns-then-eq
 returns-then-eq c =
-    let p = narrow_none _ _ _ _ _ (sym c.in-ok-check-narrow.ensures) in
+    let p = narrow_none _ _ _ _ _ (sym c.in_ok-check_narrow.ensures) in
+    let a : c.answer-found.result ≡ No = search rules in
     let V = c.args.self.now.variables in
     let cs = held c.args.self.now.table in
-    let d = decided_no V cs c.args.assumed.now c.args.values.now c.args.marks.now c.answer-found.new.values c.answer-found.new.marks c.answer-found.result c.answer-found.ensures.cases c.if-eq.ensures in
+    let d = decided_no V cs c.args.assumed.now c.args.values.now c.args.marks.now c.answer-found.new.values c.answer-found.new.marks c.answer-found.result c.answer-found.ensures.cases a in
     record {
-      refused = c.in-ok-check-narrow.ensures;
-      cases = narrowly_no V cs c.args.assumed.now c.args.first c.args.values.now c.args.marks.now c.fill-front.new.bytes c.narrow-marks.new.marks c.answer-found.result c.if-eq.ensures
-          (narrowed_from cs c.args.assumed.now c.args.first c.args.marks.now c.answer-found.new.marks c.narrow-marks.new.marks d.0.rest c.narrow-marks.ensures)
-          (zeroed_all (V + 1) V c.answer-found.new.values c.fill-front.new.bytes refl (omega (arith, p.0.values_fit, c.answer-found.auto.values)) c.fill-front.ensures
+      refused = c.in_ok-check_narrow.ensures;
+      cases = narrowly_no V cs c.args.assumed.now c.args.first c.args.values.now c.args.marks.now c.fill_front.new.bytes c.narrow_marks.new.marks c.answer-found.result a
+          (narrowed_from cs c.args.assumed.now c.args.first c.args.marks.now c.answer-found.new.marks c.narrow_marks.new.marks d.0.rest c.narrow_marks.ensures)
+          (zeroed_all (V + 1) V c.answer-found.new.values c.fill_front.new.bytes refl (omega (arith, p.0.values_fit, c.answer-found.auto.values)) c.fill_front.ensures
           ∙ ap (λ x. zeroed (V + 1) x) d.1);
       same = refl;
-      same-variables = refl;
-      same-cells = refl;
+      same_variables = refl;
+      same_cells = refl;
     }

@@ -4,5 +4,5 @@ use Rattle.counting.proofs.solver.CountingSolver.decide.Goals as goal
 
 pub answer-requires : goal.answer-requires
 answer-requires c =
-    let p = decide_none _ _ _ _ (sym c.in-ok-check-decide.ensures) in
-    record { ranged = p.ranged; room = p.values_fit; marks-room = p.marks_fit }
+    let p = decide_none _ _ _ _ (sym c.in_ok-check_decide.ensures) in
+    record { ranged = p.ranged; room = p.values_fit; marks_room = p.marks_fit }

@@ -14,7 +14,7 @@ loop-literal-preserved c =
     elim c.if-care-eq1.branch [
       | then-care-eq1 w ↦
           put_more _ (literals_in c.if-care-eq1.self) _ _ _ _
-          (ap literals_in w.self-is ∙ w.push.ensures ∙ ap (λ x. take 64 (literals_in o.self ++ x ∷ [])) w.signed-as.ensures)
+          (ap literals_in w.self-is ∙ w.push.ensures ∙ ap (λ x. take 64 (literals_in o.self ++ x ∷ [])) w.signed_as.ensures)
           (cared_yes ls o.literal-index _ c.loop-literal-test.true o.care o.value w.if-care-eq1.true) o.invariant
       | else-care-eq1 w ↦
           ap (λ t. take 64 (literals_in t ++ cared (drop (o.literal-index + 1) ls) (o.care / 2) (o.value / 2))) w.self-is

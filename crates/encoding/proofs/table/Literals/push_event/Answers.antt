@@ -5,5 +5,5 @@ use Rattle.encoding.proofs.table.Literals.push_event.Goals as goal
 
 pub returns : goal.returns
 returns c =
-    c.push-signed.ensures
-    ∙ ap (λ t. take 64 (literals_in c.args.self.now ++ with_signs t c.args.event)) (c.as-slice.ensures ∙ c.inputs-of-inputs.ensures.value)
+    c.push_signed.ensures
+    ∙ ap (λ t. take 64 (literals_in c.args.self.now ++ with_signs t c.args.event)) (c.as_slice.ensures ∙ c.inputs_of-inputs.ensures.value)

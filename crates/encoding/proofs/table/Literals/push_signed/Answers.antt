@@ -7,7 +7,7 @@ use Rattle.encoding.proofs.table.Literals.push_signed.Goals as goal
 
 pub loop-literal-preserved : goal.loop-literal-preserved
 loop-literal-preserved c =
-    put_more _ _ _ _ _ _ (c.push.ensures ∙ ap (λ x. take 64 (literals_in c.loop-literal.self ++ x ∷ [])) c.signed-as.ensures)
+    put_more _ _ _ _ _ _ (c.push.ensures ∙ ap (λ x. take 64 (literals_in c.loop-literal.self ++ x ∷ [])) c.signed_as.ensures)
     (at_drop_more (λ t. with_signs t c.loop-literal.bits) c.args.literals.now c.loop-literal.literal-index _ c.loop-literal-test.true) c.loop-literal.invariant
 
 pub returns : goal.returns

@@ -5,5 +5,5 @@ use Rattle.encoding.proofs.table.Literals.push_state.Goals as goal
 
 pub returns : goal.returns
 returns c =
-    c.push-signed.ensures
-    ∙ ap (λ t. take 64 (literals_in c.args.self.now ++ with_signs t c.args.state)) (c.as-slice.ensures ∙ c.latches-of-latches.ensures.value)
+    c.push_signed.ensures
+    ∙ ap (λ t. take 64 (literals_in c.args.self.now ++ with_signs t c.args.state)) (c.as_slice.ensures ∙ c.latches_of-latches.ensures.value)

@@ -7,7 +7,7 @@ use Rattle.region.proofs.Passing.{passing_past, some_passes}
 use Rattle.region.proofs.region.Region.lowest_passing.Goals as goal
 
 pub loop-answer-preserved : goal.loop-answer-preserved
-loop-answer-preserved c = below_more _ _ c.loop-answer.invariant (sym c.in-default.ensures.value)
+loop-answer-preserved c = below_more _ _ c.loop-answer.invariant (sym c.in_default.ensures.value)
 
 pub returns-in-Some : goal.returns-in-Some
 returns-in-Some c = record { cases = (sym c.in-Some.ensures.value, c.loop-answer.invariant); answered = λ _ _ _. refl }

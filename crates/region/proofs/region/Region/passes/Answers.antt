@@ -7,8 +7,8 @@ pub returns : goal.returns
 returns c =
     let r = c.args.self.now in
     record {
-      value = c.good-step.ensures;
+      value = c.good_step.ensures;
       judged =
-          judged (arena_in r) (rows_in r) c.args.state c.args.event c.args.answer (region_playable r).in_range (region_exact r) c.good-step.result
-          c.good-step.ensures;
+          judged (arena_in r) (rows_in r) c.args.state c.args.event c.args.answer (region_playable r).in_range (region_exact r) c.good_step.result
+          c.good_step.ensures;
     }

@@ -4,5 +4,5 @@ use Rattle.session.proofs.stage.Raised.settle.Goals as goal
 
 pub returns : goal.returns
 returns c =
-    settle_gives (arena_in c.args.region.now) (rows_in c.args.region.now) c.args.self c.args.wish c.settle-or-refuse.result
-    c.settle-or-refuse.ensures
+    settle_gives (arena_in c.args.region.now) (rows_in c.args.region.now) c.args.self c.args.wish c.settle_or_refuse.result
+    c.settle_or_refuse.ensures

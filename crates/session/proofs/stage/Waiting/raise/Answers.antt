@@ -4,4 +4,4 @@ use Rattle.session.proofs.stage.Waiting.raise.Goals as goal
 
 pub returns : goal.returns
 returns c =
-    raise_gives (arena_in c.args.region.now) (rows_in c.args.region.now) c.args.self c.args.event c.raise-or-refuse.result c.raise-or-refuse.ensures
+    raise_gives (arena_in c.args.region.now) (rows_in c.args.region.now) c.args.self c.args.event c.raise_or_refuse.result c.raise_or_refuse.ensures

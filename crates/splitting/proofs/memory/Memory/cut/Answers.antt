@@ -10,11 +10,11 @@ returns c =
     let m = c.args.self.now in
     let f = c.requires.fit in
     let old = used_cells m in
-    let new = take c.place-in-self.result m.cells.numbers.now in
-    let w = cut old new c.args.kept m.variables f.ranges (omega (arith, f.counted, c.requires.fewer)) c.place-in-self.ensures.front in
+    let new = take c.place_in-self.result m.cells.numbers.now in
+    let w = cut old new c.args.kept m.variables f.ranges (omega (arith, f.counted, c.requires.fewer)) c.place_in-self.ensures.front in
     record {
       fit = record {
-        within = omega (arith, c.place-in-self.ensures.within, f.within);
+        within = omega (arith, c.place_in-self.ensures.within, f.within);
         coded = w.coded;
         ranges = w.ranges;
         counted = sym w.count;
@@ -24,6 +24,6 @@ returns c =
         marks = f.marks;
       };
       after = ap (map literals) w.after ∙ sym (take-map literals c.args.kept (clauses old));
-      same-variables = refl;
-      same-cells = refl;
+      same_variables = refl;
+      same_cells = refl;
     }

@@ -4,8 +4,8 @@ use Rattle.splitting.specs.Held.{used_cells}
 use Rattle.splitting.proofs.Givens.{within_table}
 use Rattle.splitting.proofs.memory.Memory.solve.Goals as goal
 
-pub solve-in-requires : goal.solve-in-requires
-solve-in-requires c =
+pub solve_in-requires : goal.solve_in-requires
+solve_in-requires c =
     let m = c.args.self.now in
     let f = c.requires.fit in
     let size = length m.value.numbers.now in
