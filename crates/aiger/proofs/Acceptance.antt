@@ -1,42 +1,39 @@
 -- A file is accepted with a model exactly when it is a file of that model.
-use Rattle.std.proofs.Common.{◌≡◌, ℕ, zero, suc, ◌+◌, ◌-◌, ◌*◌, ◌<◌, ◌≤◌, Bool, true, false, cond, not, ◌&&◌, ◌||◌, eqb, ltb, leb, ◌⊎◌, List, [], ◌∷◌, ◌++◌, map, length, get_or, take, drop, replicate, Some, None, Ok, Err, Option, Result, sym, refl, ap, ◌∙◌, subst, inl, inr, ⊎_elim, append_assoc, arith}
+use Rattle.std.proofs.Common.{◌≡◌, ℕ, zero, suc, ◌+◌, ◌-◌, ◌*◌, ◌<◌, ◌≤◌, true, false, not, ◌&&◌, ◌||◌, eqb, ltb, leb, List, [], ◌∷◌, ◌++◌, map, length, get_or, take, drop, replicate, Some, None, Ok, Option, sym, refl, ap, ◌∙◌, subst, inl, inr, ⊎_elim, append_assoc, arith}
 use Rattle.std.proofs.lemmas.Bool.Decides.{nat_tests}
-use Rattle.std.proofs.lemmas.List.{length-map, length-take-le, length-replicate, get_or-replicate, nil_from_length}
-use Rattle.std.proofs.lemmas.Bool.{cond-true, cond-false, cond_both, and_parts, and_from, cases_Bool, cases_lt, or_cases, eqb-true, leb-true}
+use Rattle.std.proofs.lemmas.List.{length-map, length-take-le, nil_from_length}
+use Rattle.std.proofs.lemmas.Bool.{cond-false, cond_both, and_parts, and_from, cases_Bool, or_cases, eqb-true, leb-true}
 use Rattle.literal.specs.declared.Literal.{Literal}
 use Rattle.literal.specs.Truth.{variable_of}
 use Rattle.circuit.specs.declared.record.Gate.{Gate}
-use Rattle.circuit.specs.declared.record.Input.{Input}
 use Rattle.circuit.specs.declared.record.Latch.{Latch}
 use Rattle.circuit.specs.declared.record.Record.{Record}
 use Rattle.circuit.specs.Parts.{blank_gate, blank_input, blank_latch, inputs_of, latches_of, gates_of, answers?}
-use Rattle.circuit.specs.Sound.{member, every, fresh, known, defined, all_fresh, gates_ordered, sources, source_variables, variables, sized, sides_fit, event_count, answer_count, blank_past, sound}
+use Rattle.circuit.specs.Sound.{member, every, fresh, known, defined, all_fresh, gates_ordered, sources, source_variables, variables, sized, sides_fit, event_count, answer_count, sound}
 use Rattle.circuit.proofs.Soundness.{Sizes, Soundness, soundness}
 use Rattle.circuit.proofs.Freshness.{fresh_append, defined_append}
 use Rattle.text.specs.Cut.{Parts, cut_at}
 use Rattle.text.proofs.Cuts.{cut_text, cut_gives}
-use Rattle.aiger.specs.declared.fault.ReadFault.{ReadFault}
 use Rattle.aiger.specs.declared.fault.ReadFault.TheVariants as fault
 use Rattle.aiger.specs.declared.line.Header.{Header}
 use Rattle.aiger.specs.declared.line.SymbolKind.{SymbolKind}
 use Rattle.aiger.specs.declared.line.SymbolKind.TheVariants as kind
-use Rattle.aiger.specs.declared.reader.Reader.{Reader}
-use Rattle.aiger.specs.Line.{Content, one, two, three, symbol, comment, malformed, text_of, texts, header_of, header_text}
-use Rattle.aiger.specs.Advance.{State, state_of, and_then, over, close_on, with_inputs, with_latches, with_output, sides_on, start_of, raw_start, model_of, commented}
+use Rattle.aiger.specs.Line.{Content, comment, malformed, texts, header_of, header_text}
+use Rattle.aiger.specs.Advance.{State, state_of, and_then, close_on, with_inputs, with_latches, sides_on, start_of, raw_start, commented}
 use Rattle.aiger.specs.Read.{lines_of, folded, sized_of, Filled, filling, body_of, sized_then, headed, fill_of}
-use Rattle.aiger.specs.Format.{header_for, input_line, latch_line, gate_line, input_literals, body_lines, body, Symbol, symbol_line, symbol_texts, count_of, named_by, well_named, names_answer, Tail, FileOf, Accepts}
-use Rattle.aiger.proofs.Sections.{puts, all_ok, then_took}
-use Rattle.aiger.proofs.Counted.{no_err, unit_ok, cond_took, put_i, ok_i, put_l, ok_l, put_g, ok_g}
-use Rattle.aiger.proofs.Bodies.{Body, lines_of_body, state₀, full₀, state₁, full₁, state₂, state₃, full₃, state₄, record_of, model₁, model₂, model₃, table₃, names₃, Fine, body_forward, BodyLines, body_backward}
-use Rattle.aiger.proofs.Defining.{Knowing, Knows, knowing_start, known_low, inputs_fresh, inputs_known, latches_forward, latches_backward, latches_known, gates_fresh, gates_known, close_forward, close_backward, nexts_known, nexts_low, nexts_low_lem, literals, outputs}
+use Rattle.aiger.specs.Format.{header_for, input_line, latch_line, gate_line, input_literals, body_lines, body, Symbol, symbol_line, symbol_texts, count_of, well_named, names_answer, Tail, Accepts}
+use Rattle.aiger.proofs.Sections.{then_took}
+use Rattle.aiger.proofs.Counted.{no_err, unit_ok, cond_took}
+use Rattle.aiger.proofs.Bodies.{Body, lines_of_body, state₀, state₁, full₁, state₃, full₃, state₄, record_of, model₁, model₂, model₃, table₃, names₃, Fine, body_forward, body_backward}
+use Rattle.aiger.proofs.Defining.{Knows, knowing_start, known_low, inputs_fresh, inputs_known, latches_forward, latches_backward, latches_known, gates_fresh, gates_known, close_forward, close_backward, nexts_known, nexts_low, nexts_low_lem, literals, outputs}
 use Rattle.aiger.proofs.Files.{lines_cut, lines_end}
 use Rattle.aiger.specs.declared.reader.Section.TheVariants.{Symbols}
 use Rattle.aiger.proofs.Headers.{Small, header_text_lem, header_within, header_gives}
 use Rattle.aiger.proofs.Named.{Flagged, well_forward, well_backward, well_sayable}
-use Rattle.aiger.proofs.Naming.{puts_s, all_ok_s, flag_of, sided_all, symbols_forward, symbols_backward, Symbol-lines, TailLines, end_forward, comment_forward, puts_model, puts_section}
+use Rattle.aiger.proofs.Naming.{puts_s, flag_of, sided_all, symbols_forward, symbols_backward, TailLines, end_forward, comment_forward, puts_model, puts_section}
 use Rattle.aiger.proofs.Records.{Blanks, blanks_of, blanks_past, sided_table, table_length, table_side, table_drop, table_literals, inputs_same, lists_same, filled_take, filled_drop, filled_length}
 use Rattle.aiger.proofs.Tables.{set_all}
-use Rattle.aiger.proofs.Texts.{Sayable, AllSayable, Fronts, texts_lines, lines_texts, first_line, NoneMalformed, texts_append, sayable_append, sayable_back, malformed_append, say_one, say_two, say_three}
+use Rattle.aiger.proofs.Texts.{AllSayable, texts_lines, lines_texts, first_line, NoneMalformed, texts_append, sayable_append, sayable_back, malformed_append, say_one, say_two, say_three}
 
 -- the sizes that a header may have over a table of n places
 pub record Sized (h : Header) (n : ℕ) : Type 0 where

@@ -1,22 +1,20 @@
 -- A file's body, section after section, from its things to its lines and back.
-use Rattle.std.proofs.Common.{◌≡◌, ℕ, zero, suc, ◌+◌, ◌-◌, ◌<◌, ◌≤◌, Bool, true, false, cond, not, ◌&&◌, ◌||◌, eqb, List, [], ◌∷◌, ◌++◌, map, length, replicate, Ok, Err, Result, sym, refl, ap, ◌∙◌, subst, append_assoc, arith}
+use Rattle.std.proofs.Common.{◌≡◌, ℕ, ◌+◌, true, false, eqb, List, [], ◌∷◌, ◌++◌, map, length, replicate, Ok, sym, refl, ap, ◌∙◌, append_assoc, arith}
 use Rattle.std.proofs.lemmas.Bool.{cond-true, cond-false, eq-eqb}
 use Rattle.literal.specs.declared.Literal.{Literal}
 use Rattle.circuit.specs.declared.record.Gate.{Gate}
 use Rattle.circuit.specs.declared.record.Latch.{Latch}
 use Rattle.circuit.specs.declared.record.Record.{Record}
 use Rattle.circuit.specs.Parts.{blank_gate, blank_input, blank_latch}
-use Rattle.aiger.specs.declared.fault.ReadFault.{ReadFault}
 use Rattle.aiger.specs.declared.fault.ReadFault.TheVariants as fault
 use Rattle.aiger.specs.declared.line.Header.{Header}
-use Rattle.aiger.specs.declared.reader.Reader.{Reader}
-use Rattle.aiger.specs.declared.reader.Section.TheVariants.{Inputs, Latches, Output, Gates, Symbols, Comment}
+use Rattle.aiger.specs.declared.reader.Section.TheVariants.{Latches, Output, Symbols}
 use Rattle.aiger.specs.Line.{Content, one}
-use Rattle.aiger.specs.Advance.{State, state_of, and_then, beside, over, lit, goto, leave_inputs, leave_latches, leave_gates, close_on, output_on, put_output, with_inputs, with_latches, with_output, event_input, advance, advance_at, end_on, end_at, start_of, raw_start, model_of}
+use Rattle.aiger.specs.Advance.{State, state_of, and_then, beside, over, lit, goto, leave_inputs, leave_latches, leave_gates, close_on, output_on, put_output, with_inputs, with_latches, with_output, event_input, advance, end_on, start_of, raw_start, model_of}
 use Rattle.aiger.specs.Read.{folded, ended}
 use Rattle.aiger.specs.Format.{input_line, latch_line, gate_line}
-use Rattle.aiger.proofs.Sections.{Section, Lines, puts, all_ok, then_took, section_forward, section_backward}
-use Rattle.aiger.proofs.Counted.{no_err, unit_ok, one_took, cond_took, put_i, ok_i, inputs_section, put_l, ok_l, latches_section, put_g, ok_g, leave_g, gates_section}
+use Rattle.aiger.proofs.Sections.{Lines, puts, all_ok, then_took, section_forward, section_backward}
+use Rattle.aiger.proofs.Counted.{no_err, unit_ok, one_took, cond_took, put_i, ok_i, inputs_section, put_l, ok_l, latches_section, put_g, ok_g, gates_section}
 use Rattle.aiger.proofs.Tables.{set_all, after_inputs, after_latches, after_gates}
 
 -- what a body's lines define

@@ -1,17 +1,16 @@
 -- The three sections with a fixed number of lines: inputs, latches and gates.
-use Rattle.std.proofs.Common.{◌≡◌, ℕ, zero, suc, ◌+◌, ◌-◌, ◌*◌, ◌%◌, ◌<◌, ◌≤◌, Bool, true, false, cond, not, ◌&&◌, ◌||◌, eqb, ltb, leb, List, [], ◌∷◌, ◌++◌, map, length, set, Ok, Err, Result, sym, refl, ap, ◌∙◌, subst, arith}
+use Rattle.std.proofs.Common.{◌≡◌, ℕ, ◌-◌, ◌%◌, ◌≤◌, Bool, true, false, cond, not, ◌&&◌, ◌||◌, eqb, set, Ok, Err, Result, sym, refl, ap, ◌∙◌, arith}
 use Rattle.std.proofs.lemmas.Bool.Decides.{nat_tests}
-use Rattle.std.proofs.lemmas.Bool.{cond-true, cond-false, cond_both, and_parts, and_from}
+use Rattle.std.proofs.lemmas.Bool.{cond-false, and_parts, and_from}
 use Rattle.literal.specs.declared.Literal.{Literal}
 use Rattle.circuit.specs.declared.record.Gate.{Gate}
 use Rattle.circuit.specs.declared.record.Latch.{Latch}
 use Rattle.aiger.specs.declared.fault.ReadFault.{ReadFault}
 use Rattle.aiger.specs.declared.fault.ReadFault.TheVariants as fault
 use Rattle.aiger.specs.declared.reader.Reader.{Reader}
-use Rattle.aiger.specs.declared.reader.Section.TheVariants.{Inputs, Latches, Output, Gates, Symbols, Comment}
+use Rattle.aiger.specs.declared.reader.Section.TheVariants.{Inputs, Latches, Gates}
 use Rattle.aiger.specs.Line.{Content, one, two, three, symbol, comment, malformed}
-use Rattle.aiger.specs.Advance.{State, state_of, and_then, beside, over, known_to, fresh_on, lit, leave_inputs, leave_latches, leave_gates, close_on, input_on, latch_on, gate_on, put_input, put_latch, put_gate, on_one, on_two, on_three, advance, advance_at, end_on, end_at}
-use Rattle.aiger.specs.Read.{ended}
+use Rattle.aiger.specs.Advance.{State, state_of, and_then, beside, over, known_to, fresh_on, lit, leave_inputs, leave_latches, leave_gates, input_on, latch_on, gate_on, put_input, put_latch, put_gate, on_one, on_two, on_three, advance, advance_at, end_on, end_at}
 use Rattle.aiger.specs.Format.{input_line, latch_line, gate_line}
 use Rattle.aiger.proofs.Sections.{Section, then_took}
 

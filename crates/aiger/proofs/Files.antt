@@ -1,21 +1,13 @@
 -- The lines of a file, one after the other.
-use Rattle.std.proofs.Common.{◌≡◌, ℕ, ◌+◌, ◌<◌, ◌≤◌, Bool, true, false, cond, not, ◌||◌, eqb, ltb, leb, List, [], ◌∷◌, ◌++◌, length, get_or, set, Some, None, Ok, Err, Option, Result, sym, refl, ap, ◌∙◌, subst, append_assoc, append-nil, arith}
-use Rattle.std.proofs.lemmas.Bool.{cond-true, cond-false, cond_both}
-use Rattle.std.proofs.lemmas.List.{length-set}
+use Rattle.std.proofs.Common.{◌≡◌, ℕ, ◌+◌, ◌<◌, cond, eqb, List, [], ◌∷◌, ◌++◌, length, Some, None, Ok, Err, Result, sym, refl, ap, ◌∙◌, append_assoc, append-nil, arith}
+use Rattle.std.proofs.lemmas.Bool.{cond-true, cond-false}
 use Rattle.std.proofs.lemmas.Bool.Decides.{nat_tests}
-use Rattle.literal.specs.declared.Literal.{Literal}
 use Rattle.circuit.specs.declared.record.Gate.{Gate}
-use Rattle.circuit.specs.declared.record.Latch.{Latch}
 use Rattle.text.specs.Cut.{Parts, cut_at}
 use Rattle.aiger.specs.declared.fault.ReadFault.{ReadFault}
-use Rattle.aiger.specs.declared.line.Header.{Header}
-use Rattle.aiger.specs.declared.line.SymbolKind.{SymbolKind}
-use Rattle.aiger.specs.declared.line.SymbolKind.TheVariants as kind
 use Rattle.aiger.specs.declared.reader.Reader.{Reader}
-use Rattle.aiger.specs.declared.reader.Section.{Section}
-use Rattle.aiger.specs.declared.reader.Section.TheVariants.{Inputs, Latches, Output, Gates, Symbols, Comment}
-use Rattle.aiger.specs.Line.{Content, one, two, three, symbol, comment, malformed, line_of}
-use Rattle.aiger.specs.Advance.{State, state_of, both, Bounds, room_of, Fits, goto, leave_inputs, leave_latches, leave_gates, over, known_to, input_on, latch_on, output_on, gate_on, symbol_on, fresh_on, close_on, advance, advance_at, put_input, put_latch, put_output, put_gate, and_then, beside, end_on, start_of, raw_start, model_of}
+use Rattle.aiger.specs.Line.{Content, malformed, line_of}
+use Rattle.aiger.specs.Advance.{State, state_of, both, advance, and_then}
 use Rattle.aiger.specs.Read.{lines_from, lines_of, folded, ended}
 
 -- one line off the front of a file

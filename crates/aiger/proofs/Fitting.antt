@@ -1,6 +1,6 @@
 -- The reader's place stays within its tables.
-use Rattle.std.proofs.Common.{◌≡◌, ℕ, ◌+◌, ◌<◌, ◌≤◌, Bool, true, false, cond, not, ◌||◌, eqb, ltb, leb, List, [], ◌∷◌, ◌++◌, length, get_or, set, IfOk, Some, None, Ok, Err, Option, Result, sym, refl, ap, ◌∙◌, subst, append_assoc, append-nil, arith}
-use Rattle.std.proofs.lemmas.Bool.{cond-true, cond-false, cond_both}
+use Rattle.std.proofs.Common.{◌≡◌, ℕ, ◌<◌, ◌≤◌, Bool, true, false, cond, not, ◌||◌, eqb, leb, List, length, get_or, set, IfOk, Ok, Err, Result, sym, refl, subst, arith}
+use Rattle.std.proofs.lemmas.Bool.{cond_both}
 use Rattle.std.proofs.lemmas.List.{length-set}
 use Rattle.std.proofs.lemmas.Bool.Decides.{nat_tests}
 use Rattle.literal.specs.declared.Literal.{Literal}
@@ -14,8 +14,8 @@ use Rattle.aiger.specs.declared.line.SymbolKind.TheVariants as kind
 use Rattle.aiger.specs.declared.reader.Reader.{Reader}
 use Rattle.aiger.specs.declared.reader.Section.{Section}
 use Rattle.aiger.specs.declared.reader.Section.TheVariants.{Inputs, Latches, Output, Gates, Symbols, Comment}
-use Rattle.aiger.specs.Line.{Content, one, two, three, symbol, comment, malformed, line_of}
-use Rattle.aiger.specs.Advance.{State, state_of, Bounds, room_of, Fits, goto, leave_inputs, leave_latches, leave_gates, over, known_to, input_on, latch_on, output_on, gate_on, symbol_on, fresh_on, close_on, advance, advance_at, put_input, put_latch, put_output, put_gate, and_then, beside, end_on, start_of, raw_start, model_of, name_input, on_one, on_two, on_three, on_symbol}
+use Rattle.aiger.specs.Line.{Content, one, two, three, symbol, comment, malformed}
+use Rattle.aiger.specs.Advance.{State, state_of, Bounds, room_of, Fits, goto, leave_inputs, leave_latches, leave_gates, over, known_to, input_on, latch_on, output_on, gate_on, symbol_on, fresh_on, close_on, advance, advance_at, put_input, put_latch, put_output, put_gate, and_then, beside, start_of, raw_start, model_of, name_input, on_one, on_two, on_three, on_symbol}
 
 pub then_made : {A B : Type 0} (P : B → Type 0) (x : Result A ReadFault) (f : A → Result B ReadFault) → ((a : A) → IfOk (f a) P) → IfOk (and_then x f) P
 then_made P (Ok a) f h = h a

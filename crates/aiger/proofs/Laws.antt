@@ -1,10 +1,10 @@
 -- The laws of reading, as the contracts cite them.
-use Rattle.std.proofs.Common.{◌≡◌, ℕ, true, List, length, IfOk, Ok, Err, Result, sym, refl, ap, ◌∙◌, subst, arith}
+use Rattle.std.proofs.Common.{◌≡◌, ℕ, true, List, length, IfOk, Ok, Err, Result, sym, refl, ap, ◌∙◌, subst}
 use Rattle.circuit.specs.declared.record.Gate.{Gate}
 use Rattle.circuit.specs.declared.record.Record.{Record}
 use Rattle.circuit.specs.Sound.{sound}
 use Rattle.aiger.specs.declared.fault.ReadFault.{ReadFault}
-use Rattle.aiger.specs.Read.{Filled, filling, Answered, answered, cleared, fill_of, read_of}
+use Rattle.aiger.specs.Read.{Filled, Answered, answered, cleared, fill_of, read_of}
 use Rattle.aiger.specs.Format.{Accepts, ReadLaw}
 use Rattle.aiger.proofs.Counted.{no_err}
 use Rattle.aiger.proofs.Acceptance.{accept_forward, accept_backward}

@@ -1,14 +1,14 @@
 -- A line's content and its text, both ways.
-use Rattle.std.proofs.Common.{◌≡◌, ℕ, zero, suc, ◌+◌, ◌-◌, ◌*◌, ◌<◌, ◌≤◌, Bool, true, false, cond, not, ◌&&◌, eqb, ltb, leb, List, [], ◌∷◌, ◌++◌, length, get_or, take, drop, Some, None, Option, sym, refl, ap, ◌∙◌, subst, append_assoc, arith}
+use Rattle.std.proofs.Common.{◌≡◌, ℕ, ◌-◌, ◌<◌, ◌≤◌, true, ◌&&◌, eqb, List, [], ◌∷◌, ◌++◌, length, get_or, take, drop, Some, None, Option, sym, refl, ap, ◌∙◌, subst, arith}
 use Rattle.std.specs.Str.{all_ascii_digits}
 use Rattle.std.proofs.lemmas.Bool.Decides.{nat_tests}
 use Rattle.std.proofs.lemmas.Bool.{cond-false, cond_both, eqb-true, and_parts}
 use Rattle.std.proofs.lemmas.List.{nil_from_length, append-nil}
 use Rattle.std.proofs.lemmas.Slice.{first_rest}
 use Rattle.text.specs.Number.{number_of, decimal}
-use Rattle.text.specs.Cut.{Taken, field_of, without}
+use Rattle.text.specs.Cut.{Taken, field_of}
 use Rattle.text.proofs.Inverse.{number_decimal, decimal_number, decimal_digits, decimal_long}
-use Rattle.text.proofs.Fields.{field_text, field_none, field_gives, digits_without}
+use Rattle.text.proofs.Fields.{field_text, field_none, field_gives}
 use Rattle.aiger.specs.declared.line.SymbolKind.{SymbolKind}
 use Rattle.aiger.specs.declared.line.SymbolKind.TheVariants.{Input, Latch, Output}
 use Rattle.aiger.specs.Line.{Content, one, two, three, symbol, comment, malformed, last_of, two_or_three, one_or_more, numbers_of, named, symbol_of, line_with, line_of, letter_of, text_of}

@@ -1,18 +1,17 @@
 -- What the reader's flags and sides say of the symbols.
-use Rattle.std.proofs.Common.{◌≡◌, ℕ, zero, suc, ◌+◌, ◌-◌, ◌<◌, ◌≤◌, Bool, true, false, cond, not, ◌&&◌, ◌||◌, eqb, ltb, leb, ◌⊎◌, List, [], ◌∷◌, ◌++◌, map, length, get_or, set, sym, refl, ap, ◌∙◌, subst, inl, inr, ⊎_elim, arith}
+use Rattle.std.proofs.Common.{◌≡◌, ℕ, ◌<◌, ◌≤◌, Bool, true, false, cond, not, ◌&&◌, ◌||◌, eqb, ltb, List, [], ◌∷◌, ◌++◌, map, length, get_or, set, sym, refl, ap, ◌∙◌, subst, ⊎_elim, arith}
 use Rattle.std.proofs.lemmas.Bool.Decides.{nat_tests}
 use Rattle.std.proofs.lemmas.List.{length-set, get_or-set_same, get_or-set_other, get_or_default}
 use Rattle.std.proofs.lemmas.Bool.{cond-true, cond-false, cond_both, and_parts, and_from, cases_eq, cases_Bool, eq-eqb, ne_eqb, ltb-true}
-use Rattle.literal.specs.declared.Literal.{Literal}
 use Rattle.circuit.specs.declared.record.Input.{Input}
 use Rattle.circuit.specs.declared.record.Record.{Record}
-use Rattle.circuit.specs.Parts.{blank_input, answers?}
+use Rattle.circuit.specs.Parts.{blank_input}
 use Rattle.text.specs.Number.{decimal}
 use Rattle.text.specs.Cut.{without}
 use Rattle.aiger.specs.declared.line.SymbolKind.{SymbolKind}
 use Rattle.aiger.specs.declared.line.SymbolKind.TheVariants as kind
 use Rattle.aiger.specs.declared.reader.Reader.{Reader}
-use Rattle.aiger.specs.Line.{Content, symbol, text_of}
+use Rattle.aiger.specs.Line.{symbol}
 use Rattle.aiger.specs.Advance.{with_inputs, sided_inputs, answer_input, controllable}
 use Rattle.aiger.specs.Format.{Symbol, symbol_line, same_kind, count_of, named_by, well_named, names_answer}
 use Rattle.aiger.proofs.Naming.{put_named, put_s, flag_of, ok_s, all_ok_s, sided_by, sided_all}

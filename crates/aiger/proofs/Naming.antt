@@ -1,26 +1,21 @@
 -- The symbols of a file, from their lines to the reader's state and back.
-use Rattle.std.proofs.Common.{◌≡◌, ℕ, zero, suc, ◌+◌, ◌-◌, ◌<◌, ◌≤◌, Bool, true, false, cond, not, ◌&&◌, ◌||◌, eqb, ltb, leb, ◌⊎◌, List, [], ◌∷◌, ◌++◌, map, length, get_or, set, Ok, Err, Result, sym, refl, ap, ◌∙◌, subst, inl, inr, ⊎_elim, add-zero, arith}
+use Rattle.std.proofs.Common.{◌≡◌, ℕ, suc, ◌+◌, Bool, true, false, not, ◌&&◌, ◌||◌, eqb, ltb, leb, ◌⊎◌, List, [], ◌∷◌, ◌++◌, map, length, get_or, Ok, Err, Result, sym, refl, ap, ◌∙◌, subst, inl, inr, ⊎_elim, add-zero, arith}
 use Rattle.std.proofs.lemmas.Bool.Decides.{nat_tests}
-use Rattle.std.proofs.lemmas.List.{length-set, get_or-set_same, get_or-set_other}
-use Rattle.std.proofs.lemmas.Bool.{cond-true, cond-false, cond_both, and_parts, and_from, cases_eq, eq-eqb, ne_eqb, ltb-true}
-use Rattle.circuit.specs.declared.record.Gate.{Gate}
+use Rattle.std.proofs.lemmas.Bool.{cond-false, and_parts, and_from}
 use Rattle.circuit.specs.declared.record.Input.{Input}
-use Rattle.circuit.specs.declared.record.Record.{Record}
-use Rattle.text.specs.Cut.{without}
 use Rattle.aiger.specs.declared.fault.ReadFault.{ReadFault}
 use Rattle.aiger.specs.declared.fault.ReadFault.TheVariants as fault
 use Rattle.aiger.specs.declared.line.SymbolKind.{SymbolKind}
 use Rattle.aiger.specs.declared.line.SymbolKind.TheVariants as kind
 use Rattle.aiger.specs.declared.reader.Names.{Names}
 use Rattle.aiger.specs.declared.reader.Reader.{Reader}
-use Rattle.aiger.specs.declared.reader.Section.TheVariants.{Inputs, Latches, Output, Gates, Symbols, Comment}
-use Rattle.aiger.specs.Line.{Content, one, two, three, symbol, comment, malformed, text_of}
+use Rattle.aiger.specs.declared.reader.Section.TheVariants.{Symbols, Comment}
+use Rattle.aiger.specs.Line.{Content, one, two, three, symbol, comment, malformed}
 use Rattle.aiger.specs.Advance.{State, state_of, and_then, beside, symbol_on, name_input, name_latch, name_output, with_inputs, sided_inputs, commented, on_symbol, advance, advance_at, end_on, end_at, sides_on}
 use Rattle.aiger.specs.Read.{folded, ended}
-use Rattle.aiger.specs.Format.{Symbol, symbol_line, same_kind, count_of, named_by, well_named}
+use Rattle.aiger.specs.Format.{Symbol, symbol_line, count_of}
 use Rattle.aiger.proofs.Sections.{then_took}
 use Rattle.aiger.proofs.Counted.{no_err, cond_took}
-use Rattle.aiger.proofs.Texts.{Sayable, AllSayable, say_symbol}
 
 abbrev pub put_named : SymbolKind → ℕ → List ℕ → Reader → Reader
 put_named kind.Input p name r = name_input p name r

@@ -1,8 +1,7 @@
 -- The record and the gate table that a body and its symbols give.
-use Rattle.std.proofs.Common.{◌≡◌, ℕ, zero, suc, ◌+◌, ◌-◌, ◌<◌, ◌≤◌, Bool, true, false, cond, not, ◌&&◌, ◌||◌, eqb, ltb, leb, ◌⊎◌, List, [], ◌∷◌, ◌++◌, map, length, get_or, take, drop, set, replicate, sym, refl, ap, ◌∙◌, subst, inl, inr, ⊎_elim, arith}
-use Rattle.std.proofs.lemmas.Bool.Decides.{nat_tests}
-use Rattle.std.proofs.lemmas.List.{length-set, length-map, length-append, length-replicate, length-take, length-take-le, length-drop, take-append-drop, take_at, drop_at, take-map, get_or-map, get_or-take, get_or_append_left, get_or-append_right, get_or-replicate, get_or-drop, get_or_default, ext_get_or, map-append, map-id}
-use Rattle.std.proofs.lemmas.Bool.{cond-true, cond-false, and_parts, and_from, cases_lt, cases_Bool, eqb-true, not-true}
+use Rattle.std.proofs.Common.{◌≡◌, ℕ, zero, suc, ◌+◌, ◌-◌, ◌<◌, ◌≤◌, Bool, true, false, not, eqb, List, [], ◌∷◌, ◌++◌, map, length, get_or, take, drop, replicate, sym, refl, ap, ◌∙◌, arith}
+use Rattle.std.proofs.lemmas.List.{length-map, length-append, length-replicate, length-take-le, length-drop, take-append-drop, take_at, drop_at, get_or-map, get_or-take, get_or_append_left, get_or-append_right, get_or-replicate, get_or-drop, ext_get_or}
+use Rattle.std.proofs.lemmas.Bool.{and_parts, and_from, eqb-true, not-true}
 use Rattle.literal.specs.declared.Literal.{Literal}
 use Rattle.circuit.specs.declared.record.Gate.{Gate}
 use Rattle.circuit.specs.declared.record.Input.{Input}
@@ -10,10 +9,10 @@ use Rattle.circuit.specs.declared.record.Latch.{Latch}
 use Rattle.circuit.specs.declared.record.Record.{Record}
 use Rattle.circuit.specs.declared.record.Side.{Side}
 use Rattle.circuit.specs.declared.record.Side.TheVariants.{Event, Answer}
-use Rattle.circuit.specs.Parts.{blank_gate, blank_input, blank_latch, blank_literal, inputs_of, latches_of, gates_of, answers?}
+use Rattle.circuit.specs.Parts.{blank_gate, blank_input, blank_latch, blank_literal, answers?}
 use Rattle.circuit.specs.Sound.{every, is_blank_input, is_blank_latch, is_blank_gate, blank_past}
-use Rattle.aiger.specs.Advance.{event_input, answer_input, lit}
-use Rattle.aiger.specs.Format.{Symbol, input_literals, names_answer, well_named}
+use Rattle.aiger.specs.Advance.{event_input, lit}
+use Rattle.aiger.specs.Format.{Symbol, names_answer, well_named}
 use Rattle.aiger.proofs.Naming.{sided_all}
 use Rattle.aiger.proofs.Named.{side_of, sided_at, sided_all_length, names_none}
 use Rattle.aiger.proofs.Tables.{set_all, set_blank}

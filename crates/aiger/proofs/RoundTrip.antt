@@ -1,5 +1,5 @@
 -- What is written of a model is a file of that model.
-use Rattle.std.proofs.Common.{◌≡◌, ℕ, zero, suc, ◌+◌, ◌-◌, ◌<◌, ◌≤◌, Bool, true, false, cond, not, ◌&&◌, ◌||◌, eqb, ltb, leb, ◌⊎◌, List, [], ◌∷◌, ◌++◌, map, length, get_or, take, drop, replicate, Ok, Err, codes, sym, refl, ap, ◌∙◌, subst, inl, inr, ⊎_elim, arith}
+use Rattle.std.proofs.Common.{◌≡◌, ℕ, zero, suc, ◌+◌, ◌-◌, ◌<◌, ◌≤◌, true, false, not, ◌&&◌, ◌||◌, ltb, List, [], ◌∷◌, ◌++◌, map, length, get_or, replicate, Ok, codes, sym, refl, ap, ◌∙◌, subst, inl, ⊎_elim, arith}
 use Rattle.std.proofs.lemmas.Bool.Decides.{nat_tests}
 use Rattle.std.proofs.lemmas.List.{append-nil, get_or-take, length-append, length-take-le, length-replicate, take_at, drop_at}
 use Rattle.std.proofs.lemmas.Bool.{and_from, cases_Bool, cond-true, cond-false, ne_eqb, eq-eqb}
@@ -13,14 +13,12 @@ use Rattle.text.specs.Number.{decimal}
 use Rattle.text.specs.Cut.{without}
 use Rattle.text.proofs.Fields.{digits_without}
 use Rattle.text.proofs.Inverse.{decimal_digits}
-use Rattle.aiger.specs.declared.line.SymbolKind.{SymbolKind}
 use Rattle.aiger.specs.declared.line.SymbolKind.TheVariants as kind
 use Rattle.aiger.specs.Advance.{controllable}
 use Rattle.aiger.specs.Read.{answered, read_of}
 use Rattle.aiger.specs.Line.{one, texts, header_text}
-use Rattle.aiger.specs.Format.{Symbol, header_for, input_line, latch_line, gate_line, input_literals, body_lines, body, symbol_texts, count_of, named_by, well_named, names_answer, Tail, FileOf, Accepts, answer_symbols, written, resized, RoundTrip}
+use Rattle.aiger.specs.Format.{Symbol, header_for, input_line, latch_line, gate_line, input_literals, body, symbol_texts, named_by, well_named, names_answer, FileOf, answer_symbols, written, resized, RoundTrip}
 use Rattle.aiger.proofs.Acceptance.{Ordered, body_for, ordered_of, sound_from}
-use Rattle.aiger.proofs.Bodies.{Body}
 use Rattle.aiger.proofs.Laws.{read_only}
 use Rattle.aiger.proofs.Records.{Blanks, blanks_of}
 use Rattle.aiger.proofs.Writing.{written_short}

@@ -1,11 +1,10 @@
 -- What the sections leave in the reader's tables.
-use Rattle.std.proofs.Common.{◌≡◌, ℕ, zero, suc, ◌+◌, ◌-◌, ◌<◌, ◌≤◌, List, [], ◌∷◌, ◌++◌, map, length, take, drop, set, replicate, sym, refl, ap, ◌∙◌, subst, append_assoc, add-zero, arith}
+use Rattle.std.proofs.Common.{◌≡◌, ℕ, suc, ◌+◌, ◌-◌, ◌<◌, ◌≤◌, List, [], ◌∷◌, ◌++◌, map, length, take, drop, set, replicate, sym, refl, ap, ◌∙◌, append_assoc, add-zero, arith}
 use Rattle.std.proofs.lemmas.List.{length-set, take-append-drop, take_more_set, drop-set-lt, drop-replicate, length-replicate}
 use Rattle.literal.specs.declared.Literal.{Literal}
 use Rattle.circuit.specs.declared.record.Gate.{Gate}
 use Rattle.circuit.specs.declared.record.Latch.{Latch}
-use Rattle.aiger.specs.declared.reader.Reader.{Reader}
-use Rattle.aiger.specs.Advance.{State, state_of, with_inputs, with_latches, event_input}
+use Rattle.aiger.specs.Advance.{State, with_inputs, with_latches, event_input}
 use Rattle.aiger.proofs.Sections.{puts}
 use Rattle.aiger.proofs.Counted.{put_i, put_l, put_g}
 

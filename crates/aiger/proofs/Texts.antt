@@ -1,7 +1,7 @@
 -- Lines and the text of a file, both ways.
-use Rattle.std.proofs.Common.{◌≡◌, ℕ, suc, ◌+◌, ◌<◌, ◌≤◌, Bool, true, false, cond, not, ◌&&◌, eqb, List, [], ◌∷◌, ◌++◌, map, length, Some, None, Option, sym, refl, ap, ◌∙◌, subst, append_assoc, arith}
+use Rattle.std.proofs.Common.{◌≡◌, ℕ, ◌<◌, ◌≤◌, true, eqb, List, [], ◌∷◌, ◌++◌, length, Some, None, Option, sym, refl, ap, ◌∙◌, append_assoc, arith}
 use Rattle.std.proofs.lemmas.Bool.Decides.{nat_tests}
-use Rattle.std.proofs.lemmas.Bool.{cond_both, and_from}
+use Rattle.std.proofs.lemmas.Bool.{cond_both}
 use Rattle.text.specs.Number.{decimal}
 use Rattle.text.specs.Cut.{Parts, cut_at, without}
 use Rattle.text.proofs.Cuts.{cut_text, cut_gives}
@@ -9,7 +9,7 @@ use Rattle.text.proofs.Fields.{digits_without}
 use Rattle.text.proofs.Inverse.{decimal_digits}
 use Rattle.aiger.specs.declared.line.SymbolKind.{SymbolKind}
 use Rattle.aiger.specs.declared.line.SymbolKind.TheVariants as kind
-use Rattle.aiger.specs.Line.{Content, one, two, three, symbol, comment, malformed, line_of, letter_of, text_of, texts}
+use Rattle.aiger.specs.Line.{Content, one, two, three, symbol, malformed, line_of, text_of, texts}
 use Rattle.aiger.specs.Read.{lines_of}
 use Rattle.aiger.proofs.Lines.{Proper, line_text, text_line}
 use Rattle.aiger.proofs.Files.{lines_cut, lines_end}

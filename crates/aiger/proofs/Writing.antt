@@ -1,5 +1,5 @@
 -- A writer's bytes, one text after another.
-use Rattle.std.proofs.Common.{◌≡◌, ℕ, zero, suc, ◌+◌, ◌-◌, ◌*◌, ◌/◌, ◌%◌, ◌^◌, ◌<◌, ◌≤◌, min, true, cond, ltb, List, [], ◌∷◌, ◌++◌, map, length, get_or, drop, set, codes, sym, refl, ap, ◌∙◌, append_assoc, zero-add, mul-suc, arith, rules}
+use Rattle.std.proofs.Common.{◌≡◌, ℕ, zero, suc, ◌+◌, ◌-◌, ◌*◌, ◌/◌, ◌%◌, ◌^◌, ◌<◌, ◌≤◌, min, true, cond, ltb, List, [], ◌∷◌, ◌++◌, map, length, get_or, drop, set, codes, sym, refl, ap, ◌∙◌, append_assoc, zero-add, mul-suc, arith}
 use mathlib.Core.List.{map-map}
 use Rattle.std.proofs.lemmas.List.{at_drop_more, at_drop_all, length-take-le, length-take, length-append}
 use Rattle.std.proofs.lemmas.List.Edits.{sets, sets-eq}

@@ -1,5 +1,5 @@
 -- What a line of a file says, and how it is written.
-use Rattle.std.specs.Prelude.{◌≡◌, ℕ, ◌<◌, ◌≤◌, Bool, true, false, cond, ◌&&◌, List, [], ◌∷◌, ◌++◌, length, drop, Some, None, codes, Option, ◌==◌}
+use Rattle.std.specs.Prelude.{ℕ, Bool, true, false, cond, ◌&&◌, List, [], ◌∷◌, ◌++◌, length, drop, Some, None, codes, Option, ◌==◌}
 use Rattle.text.specs.Number.{number_of, decimal}
 use Rattle.text.specs.Cut.{Taken, field_of}
 use Rattle.aiger.specs.declared.line.Header.{Header}

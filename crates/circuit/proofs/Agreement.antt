@@ -1,23 +1,22 @@
 -- The values that a step works out agree with the inputs, the latches and the gates, and no other values do.
-use Rattle.std.proofs.Common.{◌≡◌, ℕ, zero, suc, ◌/◌, ◌<◌, Bool, true, false, cond, ◌&&◌, List, [], ◌∷◌, ◌++◌, map, length, get_or, sym, refl, ap, ◌∙◌, zero-lt-suc, arith}
+use Rattle.std.proofs.Common.{◌≡◌, ℕ, ◌/◌, ◌<◌, Bool, true, false, cond, List, [], ◌∷◌, map, length, get_or, sym, refl, ap, ◌∙◌, arith}
 use Rattle.std.specs.List.{AllByRecursion as All}
-use Rattle.std.proofs.ByRecursion.{All-get_or, All-from_get_or, all_kept_by, All-weaker, All-append, All-map}
-use Rattle.std.proofs.lemmas.Bool.{and_parts}
+use Rattle.std.proofs.ByRecursion.{All-get_or, all_kept_by}
 use Rattle.literal.specs.declared.Literal.{Literal}
-use Rattle.literal.specs.Truth.{Values, variable_of, truth}
+use Rattle.literal.specs.Truth.{Values, variable_of}
 use Rattle.circuit.specs.declared.record.Gate.{Gate}
 use Rattle.circuit.specs.declared.record.Input.{Input}
 use Rattle.circuit.specs.declared.record.Latch.{Latch}
 use Rattle.circuit.specs.declared.record.Record.{Record}
 use Rattle.circuit.specs.declared.record.Side.{Side}
 use Rattle.circuit.specs.declared.record.Side.TheVariants.{Event, Answer}
-use Rattle.circuit.specs.Parts.{answers?, inputs_of, latches_of, gates_of, blank_input, blank_latch, blank_gate}
+use Rattle.circuit.specs.Parts.{answers?, inputs_of, latches_of, gates_of}
 use Rattle.circuit.specs.Settled.{same_side, of_side, number_of, Agrees}
-use Rattle.circuit.specs.Sound.{member, all_fresh, gates_ordered, defined, sources, source_variables, variables, sound}
+use Rattle.circuit.specs.Sound.{member, all_fresh, gates_ordered, defined, source_variables, sound}
 use Rattle.circuit.specs.Step.{bit, low_bit, with_value, with_inputs, with_latches, with_gates, conjunction, all_false, values_at}
 use Rattle.circuit.proofs.Bits.{by_place}
-use Rattle.circuit.proofs.Freshness.{ordered_parts, fresh_append, defined_append, sources_fresh, all_from_map}
-use Rattle.circuit.proofs.Membership.{member_here, member_later, defined_keeps, defined_has, with_here, with_new, conjunction_same, Same, same_more, same_defined}
+use Rattle.circuit.proofs.Freshness.{ordered_parts, defined_append, sources_fresh, all_from_map}
+use Rattle.circuit.proofs.Membership.{member_here, member_later, defined_keeps, defined_has, with_here, with_new, conjunction_same}
 use Rattle.circuit.proofs.Soundness.{soundness}
 use Rattle.circuit.proofs.Stays.{fresh_first, inputs_stay, latches_stay, gates_stay}
 

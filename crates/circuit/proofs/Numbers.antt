@@ -1,10 +1,10 @@
 -- The number whose bits are the truths of the next literals.
-use Rattle.std.proofs.Common.{◌≡◌, ℕ, zero, suc, ◌+◌, ◌*◌, ◌/◌, ◌%◌, ◌^◌, ◌<◌, ◌≤◌, Bool, true, false, cond, eqb, List, [], ◌∷◌, length, get_or, drop, sym, refl, ap, ◌∙◌, mul_assoc, pow-suc, mul-add, arith}
+use Rattle.std.proofs.Common.{◌≡◌, ℕ, suc, ◌+◌, ◌*◌, ◌^◌, ◌<◌, Bool, true, false, cond, List, [], ◌∷◌, length, get_or, drop, sym, ap, ◌∙◌, mul_assoc, pow-suc, mul-add, arith}
 use Rattle.std.proofs.lemmas.Nat.{pow-add}
 use Rattle.std.proofs.lemmas.List.{at_drop_more}
 use Rattle.literal.specs.Truth.{Values, truth}
 use Rattle.circuit.specs.declared.record.Latch.{Latch}
-use Rattle.circuit.specs.Step.{next_of, bit}
+use Rattle.circuit.specs.Step.{next_of}
 
 -- a number of as many bits as there are latches
 pub next_below : (v : Values) (ls : List Latch) → next_of v ls < 2 ^ length ls

@@ -1,8 +1,8 @@
 -- Values that agree with a step's numbers and with every gate are the same at every variable that is defined, so any of them tell the
 -- step's answer.
-use Rattle.std.proofs.Common.{◌≡◌, ℕ, zero, suc, ◌+◌, ◌*◌, ◌<◌, Bool, true, false, cond, ◌&&◌, List, [], ◌∷◌, ◌++◌, map, length, get_or, sym, refl, ap, ◌∙◌, subst, suc-le-suc, zero-le, arith}
+use Rattle.std.proofs.Common.{◌≡◌, ℕ, suc, ◌+◌, ◌*◌, ◌<◌, true, false, cond, List, [], ◌∷◌, map, length, get_or, sym, refl, ap, ◌∙◌, suc-le-suc, zero-le}
 use Rattle.std.specs.List.{AllByRecursion as All}
-use Rattle.std.proofs.ByRecursion.{All-get_or, All-from_get_or, All-append, All-map}
+use Rattle.std.proofs.ByRecursion.{All-from_get_or, All-append, All-map}
 use Rattle.std.proofs.lemmas.Bool.{and_parts, both_ways}
 use Rattle.literal.specs.declared.Literal.{Literal}
 use Rattle.literal.specs.Truth.{Values, variable_of, truth}
@@ -14,7 +14,7 @@ use Rattle.circuit.specs.declared.record.Side.{Side}
 use Rattle.circuit.specs.declared.record.Side.TheVariants.{Event, Answer}
 use Rattle.circuit.specs.Parts.{inputs_of, latches_of, gates_of, blank_latch, blank_gate}
 use Rattle.circuit.specs.Settled.{same_side, of_side, Agrees}
-use Rattle.circuit.specs.Sound.{member, known, every, gates_ordered, defined, sources, source_variables, variables, sound}
+use Rattle.circuit.specs.Sound.{known, every, gates_ordered, defined, sources, source_variables, variables, sound}
 use Rattle.circuit.specs.Step.{conjunction, next_of, values_at, bad_at, next_at}
 use Rattle.circuit.proofs.Agreement.{values_agree}
 use Rattle.circuit.proofs.Freshness.{ordered_parts}

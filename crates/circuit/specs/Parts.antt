@@ -1,5 +1,5 @@
 -- The parts of a model, and the blank ones.
-use Rattle.std.specs.Prelude.{ℕ, Bool, true, false, List, map, take, replicate}
+use Rattle.std.specs.Prelude.{Bool, true, false, List, take, replicate}
 use Rattle.literal.specs.declared.Literal.{Literal}
 use Rattle.circuit.specs.declared.record.Gate.{Gate}
 use Rattle.circuit.specs.declared.record.Input.{Input}

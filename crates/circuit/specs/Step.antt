@@ -1,5 +1,5 @@
 -- What a step answers: the values of the variables, worked out in the order of the table, and what they say.
-use Rattle.std.specs.Prelude.{ℕ, ◌+◌, ◌*◌, ◌/◌, ◌%◌, ◌^◌, Bool, true, false, cond, ◌&&◌, List, [], ◌∷◌, Ok, Err, Result, ◌==◌, nat_lt}
+use Rattle.std.specs.Prelude.{ℕ, ◌+◌, ◌*◌, ◌/◌, ◌%◌, ◌^◌, Bool, false, cond, ◌&&◌, List, [], ◌∷◌, Ok, Err, Result, ◌==◌, nat_lt}
 use Rattle.literal.specs.Truth.{Values, variable_of, truth}
 use Rattle.circuit.specs.declared.record.Gate.{Gate}
 use Rattle.circuit.specs.declared.record.Input.{Input}

@@ -1,5 +1,5 @@
 -- Words one after another.
-use Rattle.std.proofs.Common.{◌≡◌, ℕ, List, [], ◌∷◌, sym, ◌∙◌}
+use Rattle.std.proofs.Common.{◌≡◌, ℕ, List, ◌∷◌}
 
 pub second_words : (ws xs ys zs : List (List ℕ)) (a b : List ℕ) → ws ≡ a ∷ xs → xs ≡ b ∷ ys → ws ≡ a ∷ b ∷ zs → ys ≡ zs
 second_words ws xs ys zs a b e f g = cc

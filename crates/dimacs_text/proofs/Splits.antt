@@ -1,9 +1,9 @@
 -- A text taken apart into lines and words.
-use Rattle.std.proofs.Common.{◌≡◌, ℕ, zero, suc, ◌+◌, ◌-◌, ◌<◌, ◌≤◌, Bool, true, false, cond, not, eqb, leb, List, [], ◌∷◌, ◌++◌, length, get_or, take, drop, Some, None, Option, sym, refl, ap, ◌∙◌, subst, inl, inr, arith, Bor, MatchOption}
+use Rattle.std.proofs.Common.{◌≡◌, ℕ, zero, suc, ◌+◌, ◌-◌, ◌<◌, ◌≤◌, Bool, true, false, cond, not, eqb, List, [], ◌∷◌, length, get_or, take, drop, Some, None, Option, sym, refl, ap, ◌∙◌, subst, inl, inr, arith, Bor, MatchOption}
 use Rattle.std.proofs.lemmas.List.{length-drop, get_or-drop, drop_all}
 use Rattle.std.proofs.lemmas.Bool.{cond-true, cond-false, cases_lt, false≢true}
 use Rattle.text.specs.Cut.{Parts, cut_at, onto, parts_of}
-use Rattle.dimacs_text.specs.Words.{blank, extend, in_word, words, lines}
+use Rattle.dimacs_text.specs.Words.{blank, extend, words, lines}
 
 -- blanks before a word
 pub words_skip : (bs : List ℕ) (n : ℕ) → n ≤ length bs → ((k : ℕ) → k < n → blank (get_or bs k 0) ≡ true) → words bs ≡ words (drop n bs)

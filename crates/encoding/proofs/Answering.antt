@@ -1,22 +1,22 @@
 -- The answer clauses are satisfied exactly at good answers.
-use Rattle.std.proofs.Common.{◌≡◌, ℕ, ◌^◌, ◌<◌, Bool, true, false, not, ◌&&◌, ◌||◌, List, [], ◌∷◌, ◌++◌, map, length, sym, refl, ap, ◌∙◌, subst}
+use Rattle.std.proofs.Common.{◌≡◌, ℕ, ◌^◌, ◌<◌, Bool, true, false, not, ◌&&◌, ◌||◌, List, [], ◌∷◌, map, length, sym, refl, ap, ◌∙◌, subst}
 use Rattle.std.specs.List.{AllByRecursion as All}
 use Rattle.std.proofs.lemmas.List.{length-map}
-use Rattle.std.proofs.lemmas.Bool.{and_parts, and_from, not-true, not_from_false}
-use Rattle.literal.specs.Truth.{Values, truth}
+use Rattle.std.proofs.lemmas.Bool.{not-true, not_from_false}
+use Rattle.literal.specs.Truth.{Values}
 use Rattle.circuit.specs.declared.record.Gate.{Gate}
 use Rattle.circuit.specs.declared.record.Record.{Record}
 use Rattle.circuit.specs.Parts.{latches_of}
 use Rattle.circuit.specs.Sound.{sound}
 use Rattle.circuit.specs.Step.{bad_at, next_at}
-use Rattle.sat.specs.Clauses.{Clause, any_true, all_true, satisfies}
+use Rattle.sat.specs.Clauses.{all_true, satisfies}
 use Rattle.sat.proofs.Laws.{satisfies_append, satisfies_parts}
 use Rattle.game.specs.Models.{arena_of}
-use Rattle.game.specs.Rows.{agrees, row_covers, covered, good}
+use Rattle.game.specs.Rows.{agrees, row_covers, covered}
 use Rattle.game.proofs.Covered.{good_parts, good_from}
 use Rattle.game.specs.declared.row.Row.{Row}
-use Rattle.encoding.specs.Literals.{clause_literal, next_literals, number_in, state_in, event_in, answer_in, cared}
-use Rattle.encoding.specs.Clauses.{step_clauses, good_clause, answer_base, answer_row, answer_clauses}
+use Rattle.encoding.specs.Literals.{clause_literal, next_literals, state_in, event_in, answer_in, cared}
+use Rattle.encoding.specs.Clauses.{step_clauses, good_clause, answer_base, answer_row}
 use Rattle.encoding.specs.Laws.{RowFits, AnswerSound, AnswerComplete}
 use Rattle.encoding.proofs.Meaning.{truth_negation, cared_true, not_all_true}
 use Rattle.encoding.proofs.Parts.{latch_number}

@@ -1,25 +1,25 @@
 -- The candidate clauses, where something is due, are satisfied exactly at candidates.
-use Rattle.std.proofs.Common.{◌≡◌, ℕ, zero, suc, ◌+◌, ◌-◌, ◌*◌, ◌/◌, ◌%◌, ◌^◌, ◌<◌, ◌≤◌, Bool, true, false, cond, not, ◌&&◌, ◌||◌, eqb, ◌⊎◌, List, [], ◌∷◌, ◌++◌, map, length, get_or, sym, refl, ap, ◌∙◌, subst, inl, inr, add-one, arith}
+use Rattle.std.proofs.Common.{◌≡◌, ℕ, zero, suc, ◌+◌, ◌-◌, ◌*◌, ◌/◌, ◌%◌, ◌^◌, ◌<◌, Bool, true, false, cond, not, ◌&&◌, ◌||◌, eqb, ◌⊎◌, List, [], ◌∷◌, ◌++◌, map, length, get_or, sym, refl, ap, ◌∙◌, subst, inl, inr, add-one, arith}
 use Rattle.std.specs.List.{AllByRecursion as All}
-use Rattle.std.proofs.lemmas.Bool.{and_parts, and_from, or_cases, or_left, or_right, or_parts, cases_Bool, both_ways, not-true, not_from_false, eq-eqb, ne_eqb, cond-true, cond-false, and_cases, not-false}
+use Rattle.std.proofs.lemmas.Bool.{and_parts, and_from, or_cases, or_left, or_right, or_parts, both_ways, not-true, not_from_false, eq-eqb, ne_eqb, cond-true, cond-false}
 use Rattle.literal.specs.declared.Literal.{Literal}
-use Rattle.literal.specs.Truth.{Values, negation_of, truth}
+use Rattle.literal.specs.Truth.{Values, truth}
 use Rattle.circuit.specs.declared.record.Gate.{Gate}
 use Rattle.circuit.specs.declared.record.Record.{Record}
 use Rattle.circuit.specs.declared.record.Side.TheVariants.{Event}
 use Rattle.circuit.specs.Sound.{sound}
-use Rattle.circuit.specs.Step.{bad_at, next_at, state_count, event_numbers}
+use Rattle.circuit.specs.Step.{bad_at, next_at}
 use Rattle.roll.proofs.First.{first_of}
-use Rattle.sat.specs.Clauses.{Clause, any_true, all_true, satisfies}
+use Rattle.sat.specs.Clauses.{any_true, all_true, satisfies}
 use Rattle.sat.proofs.Laws.{satisfies_append, satisfies_parts}
 use Rattle.game.specs.Models.{arena_of}
 use Rattle.game.specs.Rows.{agrees, row_covers, covered, excepted, exception_covers, good, blank_row}
 use Rattle.game.proofs.Covered.{not_good}
 use Rattle.game.specs.declared.exception.Exception.{Exception}
 use Rattle.game.specs.declared.row.Row.{Row}
-use Rattle.encoding.specs.Literals.{positive, negative, clause_literal, due_variable, entry_variable, due_literal, latch_literals, next_literals, side_literals, number_in, state_in, event_in, answer_in, cared}
-use Rattle.encoding.specs.Clauses.{not_all, implies, step_clauses, bad_clause, outside_clause, entry_clauses, choice_clause, candidate_base, candidate_row, candidate_rows, exception_clause, candidate_clauses}
-use Rattle.encoding.specs.Laws.{RowFits, ExceptionFits, Candidate, CandidateSound, CandidateComplete}
+use Rattle.encoding.specs.Literals.{positive, clause_literal, due_variable, entry_variable, latch_literals, next_literals, side_literals, state_in, event_in, answer_in, cared}
+use Rattle.encoding.specs.Clauses.{implies, step_clauses, bad_clause, outside_clause, entry_clauses, choice_clause, candidate_base, candidate_row, candidate_rows, exception_clause}
+use Rattle.encoding.specs.Laws.{RowFits, ExceptionFits, CandidateSound, CandidateComplete}
 use Rattle.encoding.proofs.Answering.{not_or, next_covered}
 use Rattle.encoding.proofs.Meaning.{truth_negation, cared_true, not_all_true}
 use Rattle.encoding.proofs.Parts.{latches_length, events_length}

@@ -1,7 +1,7 @@
 -- Clauses held one after another.
-use Rattle.std.proofs.Common.{◌≡◌, ℕ, ◌+◌, ◌-◌, ◌<◌, ◌≤◌, Bool, true, false, cond, ◌&&◌, List, [], ◌∷◌, ◌++◌, map, length, get_or, take, drop, is_ok, Some, None, Ok, Err, Option, Result, sym, refl, ap, ◌∙◌, subst, arith}
+use Rattle.std.proofs.Common.{◌≡◌, ℕ, ◌+◌, ◌-◌, ◌<◌, ◌≤◌, true, cond, List, [], ◌∷◌, ◌++◌, map, length, get_or, take, drop, is_ok, Some, None, Ok, Err, Option, Result, sym, refl, ap, ◌∙◌, subst, arith}
 use Rattle.std.specs.Result.{result_err}
-use Rattle.std.specs.List.{flat_map, AllByRecursion as All}
+use Rattle.std.specs.List.{flat_map}
 use Rattle.std.proofs.lemmas.List.{append_assoc, append-nil, take_more, take_all, take-append-drop}
 use Rattle.std.proofs.lemmas.Bool.{and_parts}
 use Rattle.sat.specs.declared.fault.SolverFault.{SolverFault}
@@ -10,7 +10,7 @@ use Rattle.sat.specs.Faults.{hold_fault, in_range, all_in_range}
 use Rattle.sat.proofs.Checks.{hold_passes}
 use Rattle.sat.proofs.Laws.{cells_of_push}
 use Rattle.encoding.specs.Holding.{else_after, held_after, held_fault, Held}
-use Rattle.encoding.specs.Laws.{ClausesFit, HeldWhole}
+use Rattle.encoding.specs.Laws.{ClausesFit}
 
 some_none : {X : Type 0} {Y : Type 0} (x : X) → Some x ≡ None → Y
 some_none x e = let z : ◌≡◌ {A = ℕ} 0 1 = cc in absurd (omega arith)

@@ -1,17 +1,17 @@
 -- What signs, masks and marks say of the numbers that values hold.
-use Rattle.std.proofs.Common.{◌≡◌, ℕ, zero, suc, ◌+◌, ◌*◌, ◌/◌, ◌%◌, ◌^◌, ◌<◌, ◌≤◌, Bool, true, false, cond, not, ◌&&◌, ◌||◌, eqb, ◌⊎◌, List, [], ◌∷◌, ◌++◌, map, length, get_or, take, drop, Decides, sym, refl, ap, ◌∙◌, subst, inl, inr, pow-suc, arith, pow_mono}
+use Rattle.std.proofs.Common.{◌≡◌, ℕ, suc, ◌+◌, ◌*◌, ◌/◌, ◌%◌, ◌^◌, ◌<◌, ◌≤◌, Bool, true, false, cond, not, ◌&&◌, ◌||◌, eqb, ◌⊎◌, List, [], ◌∷◌, ◌++◌, map, length, get_or, take, drop, Decides, sym, refl, ap, ◌∙◌, subst, inl, inr, pow-suc, arith, pow_mono}
 use lib.Bits.{bit_and}
 use Rattle.std.proofs.lemmas.Nat.{and_shr, and_mod, and_le_r}
-use Rattle.std.proofs.lemmas.List.{append-nil, get_or-map, get_or_past, length-map}
-use Rattle.std.proofs.lemmas.Bool.{both_ways, cases_Bool, cases_lt, cases_eq, eq-eqb, ne_eqb, eqb-true, cond-true, cond-false}
+use Rattle.std.proofs.lemmas.List.{get_or-map, get_or_past, length-map}
+use Rattle.std.proofs.lemmas.Bool.{cases_lt, cases_eq, eq-eqb, ne_eqb, cond-true, cond-false}
 use Rattle.std.proofs.lemmas.Bool.Decides.{nat_tests, Decides-eqb, Decides-at}
 use Rattle.literal.specs.declared.Literal.{Literal}
 use Rattle.literal.specs.Truth.{Values, variable_of, negated, negation_of, truth}
 use Rattle.circuit.specs.Step.{bit, low_bit}
-use Rattle.sat.specs.Clauses.{Clause, any_true, all_true, satisfies, marked}
+use Rattle.sat.specs.Clauses.{any_true, all_true, marked}
 use Rattle.game.specs.Rows.{agrees}
 use Rattle.game.proofs.Bits.{bit_and_lem, same_bits}
-use Rattle.encoding.specs.Literals.{signed, with_signs, cared, from_bits, number_in, care_of}
+use Rattle.encoding.specs.Literals.{signed, with_signs, cared, number_in, care_of}
 use Rattle.encoding.specs.Clauses.{not_all}
 use Rattle.encoding.specs.Laws.{MarksSay}
 use Rattle.encoding.proofs.Bits.{low_from, half_from, from_below, from_bit}

@@ -1,14 +1,11 @@
 -- What values say of a model: its state, its event and its answer.
-use Rattle.std.proofs.Common.{◌≡◌, ℕ, ◌^◌, ◌<◌, true, List, map, length, sym, ap, ◌∙◌, subst, arith}
+use Rattle.std.proofs.Common.{◌≡◌, ℕ, ◌^◌, ◌<◌, List, map, length, sym, ◌∙◌, subst, arith}
 use Rattle.std.proofs.lemmas.List.{length-map}
 use Rattle.literal.specs.declared.Literal.{Literal}
 use Rattle.literal.specs.Truth.{Values, truth}
-use Rattle.circuit.specs.declared.record.Gate.{Gate}
-use Rattle.circuit.specs.declared.record.Record.{Record}
 use Rattle.circuit.specs.declared.record.Side.TheVariants.{Event, Answer}
-use Rattle.circuit.specs.Sound.{sound}
 use Rattle.encoding.specs.Literals.{latch_literals, side_literals, number_in}
-use Rattle.encoding.specs.Laws.{NumbersFit, SaidInRange, LiteralsSay, SaidByLiterals, MarkedRow}
+use Rattle.encoding.specs.Laws.{SaidInRange, SaidByLiterals, MarkedRow}
 use Rattle.encoding.proofs.Bits.{from_below}
 use Rattle.encoding.proofs.Meaning.{signs_decide, marks_say}
 use Rattle.encoding.proofs.Parts.{latches_length, events_length, answers_length}

@@ -1,27 +1,26 @@
 -- The sizes of the clauses.
-use Rattle.std.proofs.Common.{◌≡◌, ℕ, suc, ◌+◌, ◌*◌, ◌/◌, ◌%◌, ◌<◌, ◌≤◌, Bool, true, false, cond, ◌&&◌, eqb, List, [], ◌∷◌, ◌++◌, map, length, sym, refl, ap, ◌∙◌, subst, inl, inr, mul-suc, arith}
+use Rattle.std.proofs.Common.{◌≡◌, ℕ, suc, ◌+◌, ◌*◌, ◌/◌, ◌%◌, ◌<◌, ◌≤◌, Bool, true, false, cond, List, [], ◌∷◌, ◌++◌, map, length, refl, ◌∙◌, inl, inr, mul-suc, arith}
 use Rattle.std.specs.List.{flat_map, AllByRecursion as All}
 use Rattle.std.proofs.ByRecursion.{All-map, All-append, All-weaker}
 use Rattle.std.proofs.lemmas.List.{length-map, length-append}
-use Rattle.std.proofs.lemmas.Bool.{and_parts, and_from, cases_eq, eq-eqb, ne_eqb, cond-true, cond-false, cases_Bool}
+use Rattle.std.proofs.lemmas.Bool.{and_parts, and_from, cases_eq, eq-eqb, ne_eqb}
 use Rattle.literal.specs.declared.Literal.{Literal}
-use Rattle.literal.specs.Truth.{variable_of, negated, negation_of}
+use Rattle.literal.specs.Truth.{variable_of, negation_of}
 use Rattle.circuit.specs.declared.record.Gate.{Gate}
-use Rattle.circuit.specs.declared.record.Latch.{Latch}
 use Rattle.circuit.specs.declared.record.Record.{Record}
 use Rattle.circuit.specs.declared.record.Side.TheVariants.{Event}
 use Rattle.circuit.specs.Parts.{inputs_of, latches_of, gates_of}
 use Rattle.circuit.specs.Sound.{sound, event_count}
 use Rattle.circuit.specs.Step.{low_bit}
 use Rattle.circuit.proofs.Soundness.{soundness}
-use Rattle.sat.specs.Clauses.{Clause, cells_of}
+use Rattle.sat.specs.Clauses.{Clause}
 use Rattle.sat.specs.Faults.{in_range, all_in_range}
 use Rattle.sat.proofs.Laws.{range_from, cells_of_append}
 use Rattle.game.specs.declared.exception.Exception.{Exception}
 use Rattle.game.specs.declared.row.Row.{Row}
 use Rattle.encoding.specs.Literals.{positive, negative, clause_literal, due_variable, entry_variable, latch_literals, next_literals, side_literals, signed, cared}
-use Rattle.encoding.specs.Clauses.{not_all, implies, both_clauses, gate_clauses, constant_clause, step_clauses, good_clause, bad_clause, answer_base, answer_row, answer_clauses, outside_clause, entry_clauses, choice_clause, candidate_base, candidate_row, candidate_rows, exception_clause, candidate_clauses}
-use Rattle.encoding.specs.Laws.{ClausesFit, AnswerFits, CandidateFits, answer_variables, candidate_variables, answer_base_cells, answer_row_cells, candidate_base_cells, candidate_row_cells, exception_cells}
+use Rattle.encoding.specs.Clauses.{not_all, implies, gate_clauses, constant_clause, step_clauses, good_clause, bad_clause, answer_base, answer_row, outside_clause, entry_clauses, choice_clause, candidate_base, candidate_row, candidate_rows, exception_clause}
+use Rattle.encoding.specs.Laws.{ClausesFit, AnswerFits, CandidateFits, candidate_variables, answer_base_cells, answer_row_cells, candidate_base_cells, candidate_row_cells, exception_cells}
 use Rattle.encoding.proofs.Parts.{Own, GateInside, latches_own, sides_own, gates_own, nexts_known, output_known_lem, latch_number, latches_length, gate_number, events_length}
 
 -- a literal of a variable from 1 to the largest

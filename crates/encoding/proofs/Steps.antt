@@ -1,10 +1,10 @@
 -- Values that satisfy the clauses of a step are those that agree with the model at the numbers that they say.
-use Rattle.std.proofs.Common.{◌≡◌, ℕ, zero, suc, ◌+◌, ◌*◌, ◌/◌, ◌%◌, ◌^◌, ◌<◌, ◌≤◌, Bool, true, false, cond, not, ◌&&◌, ◌||◌, eqb, leb, ◌⊎◌, List, [], ◌∷◌, ◌++◌, map, length, get_or, Decides, sym, refl, ap, ◌∙◌, subst, inl, inr, arith, pow_mono}
+use Rattle.std.proofs.Common.{◌≡◌, ℕ, ◌+◌, ◌*◌, ◌/◌, ◌%◌, ◌^◌, ◌<◌, ◌≤◌, Bool, true, false, cond, not, ◌&&◌, ◌||◌, eqb, leb, List, [], ◌∷◌, map, length, get_or, sym, refl, ap, ◌∙◌, subst, inl, inr, arith, pow_mono}
 use Rattle.std.specs.List.{flat_map, AllByRecursion as All}
 use Rattle.std.proofs.lemmas.Nat.{div_below, pow_pos}
 use Rattle.std.proofs.ByRecursion.{All-get_or, All-from_get_or, all_kept_by}
 use Rattle.std.proofs.lemmas.List.{get_or-map, length-map}
-use Rattle.std.proofs.lemmas.Bool.{and_parts, and_from, cases_lt, cases_eq, cases_Bool, eq-eqb, ne_eqb, le-leb, lt-leb, cond-true, cond-false, not_from_false}
+use Rattle.std.proofs.lemmas.Bool.{and_parts, cases_lt, cases_eq, eq-eqb, ne_eqb, le-leb, lt-leb, cond-true, cond-false}
 use Rattle.literal.specs.declared.Literal.{Literal}
 use Rattle.literal.specs.Truth.{Values, variable_of, negated, negation_of, truth}
 use Rattle.circuit.specs.declared.record.Gate.{Gate}
@@ -13,7 +13,7 @@ use Rattle.circuit.specs.declared.record.Latch.{Latch}
 use Rattle.circuit.specs.declared.record.Record.{Record}
 use Rattle.circuit.specs.declared.record.Side.{Side}
 use Rattle.circuit.specs.declared.record.Side.TheVariants.{Event, Answer}
-use Rattle.circuit.specs.Parts.{inputs_of, latches_of, gates_of, blank_gate, blank_latch}
+use Rattle.circuit.specs.Parts.{inputs_of, latches_of, gates_of, blank_gate}
 use Rattle.circuit.specs.Settled.{same_side, of_side, number_of, Agrees}
 use Rattle.circuit.specs.Sound.{sound}
 use Rattle.circuit.specs.Step.{bit, with_value, next_of, values_at, bad_at, next_at, state_count, event_numbers, answer_numbers, conjunction}
@@ -21,10 +21,10 @@ use Rattle.circuit.proofs.Agreement.{values_agree}
 use Rattle.circuit.proofs.Freshness.{all_from_map}
 use Rattle.circuit.proofs.Membership.{conjunction_same}
 use Rattle.circuit.proofs.Unique.{bad_by, next_by}
-use Rattle.sat.specs.Clauses.{Clause, any_true, all_true, satisfies}
+use Rattle.sat.specs.Clauses.{any_true, satisfies}
 use Rattle.sat.proofs.Laws.{satisfies_append, satisfies_parts}
 use Rattle.game.proofs.Bits.{same_bits}
-use Rattle.encoding.specs.Literals.{positive, negative, clause_literal, latch_literals, next_literals, side_literals, number_in, state_in, event_in, answer_in, state_literals, event_literals, answer_literals}
+use Rattle.encoding.specs.Literals.{positive, negative, clause_literal, next_literals, side_literals, number_in, state_in, event_in, answer_in}
 use Rattle.encoding.specs.Clauses.{both_clauses, gate_clauses, constant_clause, step_clauses}
 use Rattle.encoding.specs.Laws.{Says}
 use Rattle.encoding.proofs.Bits.{from_bit}

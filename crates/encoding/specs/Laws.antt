@@ -1,11 +1,10 @@
 -- What the clauses mean: values that satisfy them, and steps of the model. Values speak of a state, an event and an answer.
-use Rattle.std.specs.Prelude.{◌≡◌, ℕ, ◌+◌, ◌*◌, ◌^◌, ◌<◌, ◌≤◌, Bool, true, false, List, [], ◌∷◌, ◌++◌, length, take, drop, None, Decides, ◌==◌, bit_and, slice_index}
+use Rattle.std.specs.Prelude.{◌≡◌, ℕ, ◌+◌, ◌*◌, ◌^◌, ◌<◌, ◌≤◌, true, false, List, [], ◌∷◌, ◌++◌, length, take, drop, None, Decides, ◌==◌, bit_and, slice_index}
 use Rattle.std.specs.List.{AllByRecursion as All}
 use Rattle.literal.specs.declared.Literal.{Literal}
 use Rattle.literal.specs.Truth.{Values, truth}
 use Rattle.circuit.specs.declared.record.Gate.{Gate}
 use Rattle.circuit.specs.declared.record.Record.{Record}
-use Rattle.circuit.specs.declared.record.Side.TheVariants.{Event}
 use Rattle.circuit.specs.Parts.{inputs_of}
 use Rattle.circuit.specs.Sound.{sound, event_count}
 use Rattle.circuit.specs.Step.{bit, state_count, event_numbers, answer_numbers}
@@ -16,7 +15,7 @@ use Rattle.game.specs.Rows.{agrees, row_covers, covered, excepted, good}
 use Rattle.game.specs.declared.exception.Exception.{Exception}
 use Rattle.game.specs.declared.row.Row.{Row}
 use Rattle.encoding.specs.Literals.{due_literal, with_signs, number_in, state_literals, event_literals, answer_literals, state_in, event_in, answer_in, care_of}
-use Rattle.encoding.specs.Clauses.{answer_base, answer_row, answer_clauses, candidate_base, candidate_row, candidate_rows, exception_clause, candidate_clauses}
+use Rattle.encoding.specs.Clauses.{answer_base, answer_row, answer_clauses, candidate_base, candidate_row, exception_clause, candidate_clauses}
 use Rattle.encoding.specs.Holding.{held_after, held_fault}
 
 -- rows and exceptions of a model's sizes, with no value outside its care

@@ -1,5 +1,5 @@
 -- Outside exact rows every event can be answered.
-use Rattle.std.proofs.Common.{◌≡◌, ℕ, zero, suc, ◌+◌, ◌<◌, ◌≤◌, Bool, true, false, not, ◌&&◌, ◌⊎◌, List, sym, refl, ap, ◌∙◌, inl, inr, arith}
+use Rattle.std.proofs.Common.{◌≡◌, ℕ, zero, suc, ◌+◌, ◌<◌, ◌≤◌, true, false, not, ◌&&◌, ◌⊎◌, List, inl, inr, arith}
 use Rattle.std.proofs.lemmas.Bool.{both_ways, cases_Bool, cases_eq, and_cases, and_left, and_right, not_from_true}
 use Rattle.game.specs.Game.{Arena, InRange, some, lasts, Safe, Lost}
 use Rattle.game.specs.Rows.{covered, good, Answered}

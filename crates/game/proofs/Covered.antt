@@ -1,8 +1,7 @@
 -- Which rows of a list cover a state.
-use Rattle.std.proofs.Common.{◌≡◌, ℕ, zero, suc, ◌<◌, ◌≤◌, Bool, true, false, cond, not, ◌&&◌, ◌||◌, ◌⊎◌, List, [], ◌∷◌, ◌++◌, length, get_or, take, sym, refl, ap, ◌∙◌, inl, inr, arith, take-suc}
-use Rattle.std.proofs.lemmas.Bool.{both_ways, cases_Bool, and_cases, and_from, and_left, and_right, or_cases, or_parts, or_left, or_right, not_from_true, not_from_false, not-true, not-false, and_parts}
-use Rattle.std.proofs.lemmas.List.{take-append-drop}
-use Rattle.roll.proofs.First.{any_at, any_append, first_of}
+use Rattle.std.proofs.Common.{◌≡◌, ℕ, zero, suc, ◌<◌, Bool, true, false, not, ◌||◌, ◌⊎◌, List, [], ◌∷◌, ◌++◌, length, get_or, take, sym, refl, ◌∙◌, inl, inr, arith, take-suc}
+use Rattle.std.proofs.lemmas.Bool.{both_ways, cases_Bool, and_cases, and_from, and_left, and_right, or_cases, or_left, or_right, not_from_true, not_from_false, not-true, not-false, and_parts}
+use Rattle.roll.proofs.First.{any_append}
 use Rattle.roll.specs.First.{FirstAt}
 use Rattle.game.specs.Game.{Arena}
 use Rattle.game.specs.Rows.{row_covers, covered, good, Justified}

@@ -1,10 +1,9 @@
 -- What is due, and what follows when nothing is.
-use Rattle.std.proofs.Common.{◌≡◌, ℕ, zero, suc, ◌+◌, ◌<◌, ◌≤◌, Bool, true, false, ◌⊎◌, List, [], ◌∷◌, ◌++◌, length, get_or, take, sym, refl, ap, ◌∙◌, inl, inr, arith}
+use Rattle.std.proofs.Common.{◌≡◌, ℕ, ◌<◌, true, false, List, [], ◌∷◌, length, inl, inr, arith}
 use Rattle.std.proofs.lemmas.Bool.{both_ways, cases_Bool}
 use Rattle.roll.proofs.First.{first_of}
-use Rattle.roll.specs.First.{FirstAt}
 use Rattle.game.specs.Game.{Arena, some}
-use Rattle.game.specs.Rows.{covered, good, Answered, AllGood, exception_covers, excepted, Serves, GoodException, GoodExceptions, RowDue, ExceptionDue}
+use Rattle.game.specs.Rows.{covered, good, Answered, AllGood, exception_covers, excepted, Serves, GoodExceptions, RowDue, ExceptionDue}
 use Rattle.game.specs.Laws.{DueLaw}
 use Rattle.game.specs.declared.exception.Exception.{Exception}
 use Rattle.game.specs.declared.row.Row.{Row}

@@ -1,12 +1,12 @@
 -- Justified rows cover only lost states, and a rest in which every event can be answered is safe.
-use Rattle.std.proofs.Common.{◌≡◌, ℕ, zero, suc, ◌+◌, ◌-◌, ◌<◌, ◌≤◌, Bool, true, false, not, ◌&&◌, ◌||◌, ◌⊎◌, List, [], ◌∷◌, ◌++◌, length, get_or, take, sym, refl, ap, ◌∙◌, inl, inr, arith}
+use Rattle.std.proofs.Common.{◌≡◌, ℕ, zero, suc, ◌<◌, ◌≤◌, true, false, not, ◌&&◌, List, [], ◌∷◌, length, get_or, take, sym, refl, ap, ◌∙◌, inl, inr, arith}
 use Rattle.std.proofs.lemmas.List.{take_all}
-use Rattle.std.proofs.lemmas.Bool.{both_ways, cases_Bool, and_cases, and_from, and_left, and_right, and_parts, or_cases, not-true, not-false, not_from_true, not_from_false}
-use Rattle.game.specs.Game.{Arena, InRange, some, every, lasts, Safe, Lost}
-use Rattle.game.specs.Rows.{row_covers, covered, good, Justified, JustifiedRows, Answered}
+use Rattle.std.proofs.lemmas.Bool.{both_ways, cases_Bool, and_from, and_left, and_right, not_from_true, not_from_false}
+use Rattle.game.specs.Game.{Arena, InRange, lasts, Safe, Lost}
+use Rattle.game.specs.Rows.{row_covers, covered, good, JustifiedRows, Answered}
 use Rattle.game.specs.Runs.{Exact}
 use Rattle.game.specs.declared.row.Row.{Row}
-use Rattle.game.proofs.Lasting.{some_false, some_true, some_at, every_true, every_at, every_false, fewer, longer, fails_lost}
+use Rattle.game.proofs.Lasting.{some_false, some_true, every_true, every_false, longer, fails_lost}
 use Rattle.game.proofs.Covered.{covered_suc, good_parts, not_good}
 
 module _ (g : Arena) (in_range : InRange g) (rs : List Row) (justified : JustifiedRows g rs) where

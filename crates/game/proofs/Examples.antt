@@ -1,13 +1,11 @@
 -- The host with one latch, worked through.
-use Rattle.std.proofs.Common.{◌≡◌, ℕ, zero, suc, ◌/◌, ◌%◌, ◌^◌, ◌<◌, true, false, eqb, List, [], ◌∷◌, length, get_or, take, sym, refl, ap, ◌∙◌, arith}
+use Rattle.std.proofs.Common.{◌≡◌, ℕ, zero, suc, ◌%◌, ◌^◌, true, false, eqb, [], ◌∷◌, refl, ap, ◌∙◌, arith}
 use native.Mathlib.Nat.{zero-div}
 use Rattle.std.proofs.lemmas.Bool.{both_ways}
 use Rattle.circuit.specs.Step.{bit, values_at}
 use Rattle.game.specs.Examples.{one_latch, one_gate, clearing, setting, latch_set, any_state, WorkedCases}
-use Rattle.game.specs.Rows.{row_covers, covered, good, blank_exception, Justified, Tight, GoodRow, GoodRows, Serves, GoodException, GoodExceptions, AllGood}
+use Rattle.game.specs.Rows.{blank_exception, Justified, Tight, GoodRow, Serves, GoodException, AllGood}
 use Rattle.game.specs.Runs.{Kept, GivenUp}
-use Rattle.game.specs.declared.exception.Exception.{Exception}
-use Rattle.game.specs.declared.row.Row.{Row}
 use Rattle.game.proofs.Bits.{bit_half}
 use Rattle.game.proofs.Models.{playable}
 use Rattle.game.proofs.Runs.{rows_none, rows_push, exceptions_none, exceptions_push, kept_run, lost_run}

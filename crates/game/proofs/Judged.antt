@@ -1,10 +1,9 @@
 -- What the answers about rows and a state say of the game.
-use Rattle.std.proofs.Common.{◌≡◌, ℕ, ◌<◌, Bool, true, false, cond, List, [], length, get_or, Some, None, Option, sym, refl, ap, ◌∙◌, arith}
+use Rattle.std.proofs.Common.{◌≡◌, ℕ, Bool, true, false, List, get_or, Some, None, sym, ap, ◌∙◌}
 use Rattle.std.proofs.lemmas.Bool.{cond-true, cond-false}
 use Rattle.roll.specs.First.{FirstAt, NonePasses}
 use Rattle.roll.proofs.First.{any_at, none_any}
-use Rattle.game.specs.Game.{Arena}
-use Rattle.game.specs.Rows.{row_covers, covered}
+use Rattle.game.specs.Rows.{covered}
 use Rattle.game.specs.Runs.{first_event}
 use Rattle.game.specs.Judged.{Judges, forcing, Forces}
 use Rattle.game.specs.declared.row.Row.{Row}

@@ -1,7 +1,7 @@
 -- Tests at all numbers below a limit, and how long the host lasts.
-use Rattle.std.proofs.Common.{◌≡◌, ℕ, zero, suc, ◌+◌, ◌-◌, ◌<◌, ◌≤◌, Bool, true, false, not, ◌&&◌, ◌||◌, ◌⊎◌, sym, refl, ap, ◌∙◌, inl, inr, suc-add, zero-add, sub-add_cancel, arith}
-use Rattle.std.proofs.lemmas.Bool.{both_ways, cases_Bool, and_parts, and_from, or_cases, or_from, or_parts, or_left, or_right, cases_eq, cases_lt}
-use Rattle.game.specs.Game.{Arena, some, every, lasts, Safe, Lost}
+use Rattle.std.proofs.Common.{◌≡◌, ℕ, zero, suc, ◌+◌, ◌-◌, ◌<◌, ◌≤◌, Bool, true, false, refl, inl, inr, suc-add, zero-add, sub-add_cancel, arith}
+use Rattle.std.proofs.lemmas.Bool.{both_ways, cases_Bool, and_parts, and_from, or_cases, or_from, or_left, or_right, cases_eq}
+use Rattle.game.specs.Game.{Arena, some, every, lasts, Lost}
 
 pub some_false : (n : ℕ) (p : ℕ → Bool) → ((k : ℕ) → k < n → p k ≡ false) → some n p ≡ false
 some_false zero p h = refl

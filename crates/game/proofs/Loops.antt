@@ -1,7 +1,7 @@
 -- A harmless loop: one state, to which every step leads back, and no step is bad.
-use Rattle.std.proofs.Common.{◌≡◌, ℕ, zero, suc, ◌<◌, true, false, List, [], ◌∷◌, refl, arith}
+use Rattle.std.proofs.Common.{◌≡◌, ℕ, zero, suc, true, false, refl, arith}
 use Rattle.std.proofs.lemmas.Bool.{both_ways}
-use Rattle.game.specs.Game.{Arena, lasts, Safe}
+use Rattle.game.specs.Game.{Arena, lasts}
 use Rattle.game.specs.Laws.{HarmlessLoop}
 use Rattle.game.specs.declared.row.Row.{Row}
 

@@ -8,7 +8,6 @@ use Rattle.circuit.specs.declared.record.Record.{Record}
 use Rattle.circuit.specs.Parts.{inputs_of, latches_of}
 use Rattle.circuit.specs.Sound.{event_count, answer_count}
 use Rattle.circuit.specs.Step.{state_count, values_at, next_at, step_of}
-use Rattle.game.specs.Game.{InRange}
 use Rattle.game.specs.Models.{arena_of, step_in, Playable}
 
 next_in_range : (r : Record) (gs : List Gate) (s e a : ℕ) → next_at r gs s e a < state_count r

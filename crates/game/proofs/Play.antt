@@ -1,11 +1,11 @@
 -- The forced play: the place of the first covering row falls with each step.
-use Rattle.std.proofs.Common.{◌≡◌, ℕ, zero, suc, ◌+◌, ◌-◌, ◌<◌, ◌≤◌, Bool, true, false, ◌⊎◌, List, [], ◌∷◌, ◌++◌, length, get_or, take, sym, refl, ap, ◌∙◌, subst, inl, inr, arith}
-use Rattle.std.proofs.lemmas.List.{take_all, take-take, get_or-take, length-take}
+use Rattle.std.proofs.Common.{◌≡◌, ℕ, zero, suc, ◌<◌, ◌≤◌, true, false, List, [], ◌∷◌, length, get_or, take, sym, refl, ap, ◌∙◌, subst, inl, inr, arith}
+use Rattle.std.proofs.lemmas.List.{take_all, take-take}
 use Rattle.std.proofs.lemmas.Bool.{both_ways}
 use Rattle.roll.specs.First.{FirstAt}
 use Rattle.roll.proofs.First.{first_of, first_take}
 use Rattle.game.specs.Game.{Arena, InRange}
-use Rattle.game.specs.Rows.{row_covers, covered, good, Justified, JustifiedRows}
+use Rattle.game.specs.Rows.{covered, good, JustifiedRows}
 use Rattle.game.specs.Runs.{first_event, met, Forced}
 use Rattle.game.specs.declared.row.Row.{Row}
 use Rattle.game.proofs.Covered.{at, covered_take, first_event_lem, not_good}

@@ -1,11 +1,10 @@
 -- What a run may answer, from its rows and exceptions.
-use Rattle.std.proofs.Common.{◌≡◌, ℕ, zero, suc, ◌+◌, ◌-◌, ◌<◌, ◌≤◌, Bool, true, false, ◌||◌, ◌⊎◌, List, [], ◌∷◌, ◌++◌, length, get_or, take, sym, refl, ap, ◌∙◌, subst, inl, inr, arith}
-use Rattle.std.proofs.lemmas.List.{length_push, get_or_push, get_or_append_left, take-append-le, take_all, take_at, length-append}
+use Rattle.std.proofs.Common.{◌≡◌, ℕ, ◌-◌, ◌<◌, ◌≤◌, true, false, List, [], ◌∷◌, ◌++◌, length, get_or, take, ap, ◌∙◌, inl, inr, arith}
+use Rattle.std.proofs.lemmas.List.{length_push, get_or_push, get_or_append_left, take-append-le, take_at}
 use Rattle.std.proofs.lemmas.Bool.{or_left, or_right, cases_lt}
-use Rattle.game.specs.Game.{Arena, InRange, Safe, Lost}
-use Rattle.game.specs.Rows.{row_covers, covered, good, Justified, JustifiedRows, Answered, AllGood, GoodRow, GoodRows, GoodException, GoodExceptions, RowDue, ExceptionDue}
-use Rattle.game.specs.Runs.{Exact, Forced, Kept, GivenUp}
-use Rattle.game.specs.Laws.{DueLaw}
+use Rattle.game.specs.Game.{Arena, InRange}
+use Rattle.game.specs.Rows.{row_covers, covered, JustifiedRows, AllGood, GoodRow, GoodRows, GoodException, GoodExceptions}
+use Rattle.game.specs.Runs.{Kept, GivenUp}
 use Rattle.game.specs.declared.exception.Exception.{Exception}
 use Rattle.game.specs.declared.row.Row.{Row}
 use Rattle.game.proofs.Covered.{covered-++}

@@ -1,5 +1,5 @@
 -- A host with one latch, worked through.
-use Rattle.std.specs.Prelude.{◌≡◌, ℕ, ◌<◌, Bool, true, false, List, [], ◌∷◌, set}
+use Rattle.std.specs.Prelude.{◌≡◌, ℕ, true, false, List, [], ◌∷◌, set}
 use Rattle.literal.specs.declared.Literal.{Literal}
 use Rattle.circuit.specs.Parts.{blank_record}
 use Rattle.circuit.specs.declared.record.Gate.{Gate}

@@ -1,5 +1,5 @@
 -- What the answers about rows and a state say of the game.
-use Rattle.std.specs.Prelude.{◌≡◌, ℕ, ◌<◌, Bool, cond, List, is_some, Some, None, MatchBool, Option}
+use Rattle.std.specs.Prelude.{ℕ, ◌<◌, Bool, cond, List, Some, None, MatchBool, Option}
 use Rattle.game.specs.Game.{Arena, InRange, Safe, Lost}
 use Rattle.game.specs.Rows.{covered, JustifiedRows}
 use Rattle.game.specs.Runs.{first_event, Forced, Exact}

@@ -1,5 +1,5 @@
 -- What a literal means.
-use Rattle.std.specs.Prelude.{ℕ, ◌+◌, ◌-◌, ◌*◌, ◌/◌, ◌%◌, Bool, true, false, cond, not, List, ◌==◌, slice_index_or}
+use Rattle.std.specs.Prelude.{ℕ, ◌+◌, ◌-◌, ◌/◌, ◌%◌, Bool, false, cond, not, List, ◌==◌, slice_index_or}
 use Rattle.literal.specs.declared.Literal.{Literal}
 
 abbrev pub variable_of : Literal → ℕ

@@ -1,5 +1,5 @@
 -- A region's invariant says that its rows are exact, and its arena can be played.
-use Rattle.std.proofs.Common.{◌≡◌, ℕ, ◌<◌, true, false, ltb, List}
+use Rattle.std.proofs.Common.{◌≡◌, false, List}
 use Rattle.std.proofs.lemmas.Bool.{and_from, and_parts, lt-ltb, ltb-true, not_from_false, not-true}
 use Rattle.circuit.proofs.Soundness.{Soundness, soundness}
 use Rattle.game.specs.Game.{Arena}

@@ -1,9 +1,8 @@
 -- Which steps pass.
-use Rattle.std.proofs.Common.{◌≡◌, ℕ, ◌<◌, ◌≤◌, Bool, true, false, cond, not, ◌&&◌, ltb, ◌⊎◌, List, Some, None, Ok, Err, Option, Result, sym, refl, ap, ◌∙◌, inl, inr, arith}
-use Rattle.std.proofs.lemmas.Bool.{both_ways, cases_Bool, cases_lt, cond-true, cond-false, and_from, and_parts, and_left, and_right, lt-ltb, le-ltb, ltb-true}
+use Rattle.std.proofs.Common.{◌≡◌, ℕ, ◌<◌, ◌≤◌, Bool, true, false, not, ◌&&◌, ltb, List, Some, None, Ok, Err, Option, Result, sym, ap, ◌∙◌, inl, inr, arith}
+use Rattle.std.proofs.lemmas.Bool.{cases_Bool, cond-true, cond-false, and_from, and_parts, and_left, and_right, lt-ltb, le-ltb, ltb-true}
 use Rattle.circuit.specs.declared.fault.StepFault.{StepFault}
-use Rattle.circuit.specs.declared.fault.StepFault.TheVariants.{OutOfRange}
-use Rattle.game.specs.Game.{Arena, InRange, Safe, Lost}
+use Rattle.game.specs.Game.{Arena, InRange, Safe}
 use Rattle.game.specs.Models.{step_in}
 use Rattle.game.specs.Rows.{covered, good}
 use Rattle.game.specs.Runs.{Exact}

@@ -6,7 +6,7 @@ use Rattle.region.specs.Judged.{passing, Lowest}
 use Rattle.region.proofs.Passing.{some_parts, none_parts, within_parts}
 use Rattle.session.specs.Faults.{session_number}
 use Rattle.session.specs.Outcomes.{raise_of, reset_of, reset_session, SettledAs}
-use Rattle.session.specs.Sessions.{Stage, waiting, pending, raising, settling, resetting, settled, refused, Gives, at_home, foreign, raised, far_event, back, used, replaced, far_wish}
+use Rattle.session.specs.Sessions.{waiting, pending, raising, settling, resetting, settled, refused, Gives, at_home, foreign, raised, far_event, back, used, replaced, far_wish}
 use Rattle.session.specs.Views.{waiting_stage, raised_stage, raise_reply, raise_stage, reset_reply, reset_stage, settle_reply, settle_stage}
 use Rattle.session.specs.declared.fault.SessionFault.TheVariants.{Foreign, OutOfRange}
 use Rattle.session.specs.declared.stage.Raised.{Raised}

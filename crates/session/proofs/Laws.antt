@@ -1,12 +1,12 @@
 -- The law of sessions: what holds after every list of calls.
-use Rattle.std.proofs.Common.{◌≡◌, ℕ, zero, suc, ◌+◌, ◌<◌, ◌≤◌, Bool, true, false, ◌⊎◌, List, [], ◌∷◌, Decides, sym, refl, ap, ◌∙◌, inl, inr, arith}
+use Rattle.std.proofs.Common.{◌≡◌, ℕ, zero, suc, ◌<◌, Bool, true, false, ◌⊎◌, List, Decides, sym, refl, ◌∙◌, inl, inr, arith}
 use Rattle.std.specs.List.{AllByRecursion as All}
 use Rattle.std.proofs.lemmas.Bool.{both_ways, cases_Bool, cases_eq, cases_lt}
-use Rattle.region.specs.Subject.{Arena, Row, Safe, Lost, Exact, Playable, covered, good}
+use Rattle.region.specs.Subject.{Arena, Row, Exact, Playable, good}
 use Rattle.region.proofs.Subject.{exact_answered, good_parts, not_good, same_good}
 use Rattle.session.specs.Faults.{session_number}
-use Rattle.session.specs.Laws.{History, opened, more, Breaks, Keeps, Promise, Alike, Law}
-use Rattle.session.specs.Sessions.{Stage, waiting, pending, Call, raising, settling, resetting, Reply, done, settled, refused, Allows, ForeignTo, Gives, foreign, raised, far_event, back, used, replaced, far_wish}
+use Rattle.session.specs.Laws.{History, opened, more, Breaks, Keeps, Promise, Law}
+use Rattle.session.specs.Sessions.{Stage, waiting, pending, Call, raising, settling, resetting, Reply, done, settled, refused, Allows, Gives, foreign, raised, far_event, back, used, replaced, far_wish}
 use Rattle.session.specs.declared.fault.SessionFault.TheVariants.{Foreign}
 use Rattle.session.proofs.Home.{Home, home_not_foreign}
 use Rattle.session.proofs.OneWay.{allowed, one_way_lem}

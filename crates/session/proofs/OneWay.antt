@@ -1,8 +1,8 @@
 -- A call is answered in one way.
-use Rattle.std.proofs.Common.{◌≡◌, ℕ, ◌<◌, ◌≤◌, Bool, true, false, ◌⊎◌, List, sym, refl, ap, inl, inr, arith}
+use Rattle.std.proofs.Common.{◌≡◌, ℕ, ◌<◌, true, false, List, refl, ap, inl, inr, arith}
 use Rattle.std.proofs.lemmas.Bool.{both_ways, cases_order}
 use Rattle.region.specs.Subject.{Arena, Row, good}
-use Rattle.session.specs.Sessions.{Stage, waiting, pending, Call, raising, settling, resetting, Reply, done, settled, refused, Allows, ForeignTo, Gives, foreign, raised, far_event, back, used, replaced, far_wish}
+use Rattle.session.specs.Sessions.{Stage, waiting, Call, Reply, settled, Allows, Gives, foreign, raised, far_event, back, used, replaced, far_wish}
 
 module _ (g : Arena) (rs : List Row) where
   pub allowed : {t : Stage} {c : Call} {o : Reply} {after : Stage} → Gives g rs t c o after → Allows t c

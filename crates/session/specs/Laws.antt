@@ -3,7 +3,7 @@ use Rattle.std.specs.Prelude.{◌≡◌, ℕ, ◌<◌, Bool, true, false, ◌⊎
 use Rattle.std.specs.List.{AllByRecursion as All}
 use Rattle.region.specs.Subject.{Arena, Row, Safe, Lost, Exact}
 use Rattle.session.specs.Faults.{session_number}
-use Rattle.session.specs.Sessions.{Stage, waiting, pending, Call, raising, settling, resetting, Reply, done, settled, refused, Allows, ForeignTo, Gives}
+use Rattle.session.specs.Sessions.{Stage, waiting, pending, Call, settling, Reply, settled, refused, Allows, ForeignTo, Gives}
 use Rattle.session.specs.declared.fault.SessionFault.TheVariants.{Foreign}
 
 -- the calls on a session that was opened, newest first, with their replies

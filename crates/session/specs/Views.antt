@@ -1,5 +1,5 @@
 -- What the code's sessions and results say, in the words of the law.
-use Rattle.std.specs.Prelude.{ℕ, Bool, Ok, Err, Result}
+use Rattle.std.specs.Prelude.{Ok, Err, Result}
 use Rattle.session.specs.Faults.{session_number}
 use Rattle.session.specs.Sessions.{Stage, waiting, pending, Reply, done, settled, refused}
 use Rattle.session.specs.declared.stage.Raised.{Raised}

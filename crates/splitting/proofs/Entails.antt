@@ -1,9 +1,9 @@
 -- A place of the trail is written: what its places mean.
-use Rattle.std.proofs.Common.{◌≡◌, ℕ, ◌+◌, ◌-◌, ◌/◌, ◌%◌, ◌<◌, ◌≤◌, ◌≢◌, ◌⊎◌, List, [], length, get_or, set, sym, refl, ap, ◌∙◌, subst, inl, inr, arith}
+use Rattle.std.proofs.Common.{◌≡◌, ℕ, ◌+◌, ◌-◌, ◌/◌, ◌%◌, ◌<◌, ◌≤◌, ◌≢◌, List, [], length, get_or, set, sym, ap, ◌∙◌, subst, inl, inr, arith}
 use Rattle.std.proofs.lemmas.List.{get_or-set_same, get_or-set_other, length-set}
 use Rattle.std.proofs.lemmas.Bool.{cases_eq, cases_lt}
 use Rattle.splitting.specs.Cells.{Holds, Fails, Met, clauses}
-use Rattle.splitting.specs.Trails.{Kept, True, Models, SeenTrue, OpenTrue, Follows, Denied, Forces, Clausal, Reasons, Front, MetBy, FrontBy, Fronts, Good}
+use Rattle.splitting.specs.Trails.{Kept, True, Models, SeenTrue, OpenTrue, Follows, Denied, Clausal, Reasons, Front, MetBy, FrontBy, Fronts, Good}
 use Rattle.splitting.specs.Blames.{Blamed}
 use Rattle.splitting.specs.declared.blame.Blame.TheVariants.{Place}
 use Rattle.splitting.proofs.Tables.{at_set}

@@ -1,13 +1,13 @@
 -- From tables and codes to values and literals.
-use Rattle.std.proofs.Common.{◌≡◌, ℕ, zero, suc, ◌+◌, ◌-◌, ◌*◌, ◌/◌, ◌%◌, ◌<◌, ◌≤◌, Bool, true, false, cond, not, ◌&&◌, ◌||◌, eqb, ◌≢◌, ◌⊎◌, List, [], ◌∷◌, ◌++◌, map, length, get_or, drop, sym, refl, ap, ◌∙◌, subst, inl, inr, arith}
+use Rattle.std.proofs.Common.{◌≡◌, ℕ, zero, suc, ◌+◌, ◌/◌, ◌%◌, ◌<◌, ◌≤◌, Bool, true, false, cond, not, eqb, List, [], ◌∷◌, map, length, get_or, sym, refl, ap, ◌∙◌, inl, inr, arith}
 use Rattle.std.proofs.lemmas.List.{length-map, length-append}
-use Rattle.std.proofs.lemmas.Bool.{cases_eq, cases_lt, eq-eqb, ne_eqb, eqb-true, eqb-false, cond-true, cond-false, or_left, or_right, or_cases, and_from, and_parts, false≢true, not-true}
+use Rattle.std.proofs.lemmas.Bool.{cases_eq, eq-eqb, ne_eqb, cond-true, cond-false, or_left, or_right, or_cases, and_from, and_parts, false≢true}
 use Rattle.literal.specs.declared.Literal.{Literal}
-use Rattle.literal.specs.Truth.{Values, truth, negated, variable_of}
-use Rattle.sat.specs.Clauses.{Clause, any_true, all_true, satisfies, marked, byte_values, Unsatisfiable, cells_of}
+use Rattle.literal.specs.Truth.{Values, truth}
+use Rattle.sat.specs.Clauses.{any_true, all_true, satisfies, marked, byte_values, cells_of}
 use Rattle.sat.specs.Answers.{Solved, Refuted}
-use Rattle.splitting.specs.Cells.{Holds, Met, clauses, literal, codes, Within, flat}
-use Rattle.splitting.specs.Trails.{True, Meets, Models, AllMet, Refutes}
+use Rattle.splitting.specs.Cells.{Holds, clauses, literal, codes, Within, flat}
+use Rattle.splitting.specs.Trails.{True, Models, AllMet, Refutes}
 use Rattle.splitting.specs.Held.{literals}
 use Rattle.splitting.specs.Written.{Valued, MarkedBy}
 

@@ -1,10 +1,10 @@
 -- What the absence of a refusal says.
-use Rattle.std.proofs.Common.{◌≡◌, ℕ, zero, suc, ◌/◌, ◌<◌, ◌≤◌, Bool, true, false, cond, ◌&&◌, ltb, leb, List, [], ◌∷◌, length, get_or, Some, None, Option, sym, refl, ap, ◌∙◌, arith}
+use Rattle.std.proofs.Common.{◌≡◌, ℕ, zero, suc, ◌<◌, ◌≤◌, Bool, true, false, cond, List, [], ◌∷◌, length, Some, None, Option, refl, arith}
 use Rattle.std.proofs.lemmas.Bool.{and_parts, leb-true, ltb-true}
 use Rattle.literal.specs.declared.Literal.{Literal}
 use Rattle.literal.specs.Truth.{variable_of}
 use Rattle.sat.specs.declared.fault.SolverFault.{SolverFault}
-use Rattle.sat.specs.Faults.{in_range, literals_fault, hold_fault, keep_fault, decide_fault, buffers_fit}
+use Rattle.sat.specs.Faults.{in_range, literals_fault, hold_fault, keep_fault, decide_fault}
 use Rattle.splitting.specs.Cells.{codes, Within}
 
 some_none : {X : Type 0} {Y : Type 0} (x : X) → Some x ≡ None → Y

@@ -1,5 +1,5 @@
 -- One turn of a pass over the clauses.
-use Rattle.std.proofs.Common.{◌≡◌, ℕ, zero, suc, ◌+◌, ◌-◌, ◌*◌, ◌/◌, ◌%◌, ◌<◌, ◌≤◌, Bool, true, false, cond, eqb, ◌⊎◌, List, [], length, get_or, set, Some, None, sym, refl, ap, ◌∙◌, subst, inl, inr, mul-le-mul_right, suc-mul, arith, below_more}
+use Rattle.std.proofs.Common.{◌≡◌, ℕ, suc, ◌+◌, ◌-◌, ◌*◌, ◌/◌, ◌%◌, ◌<◌, ◌≤◌, Bool, true, false, cond, eqb, ◌⊎◌, List, [], length, get_or, set, Some, None, sym, refl, ap, ◌∙◌, subst, inl, inr, mul-le-mul_right, suc-mul, arith, below_more}
 use Rattle.std.proofs.lemmas.Bool.{cases_eq, eq-eqb, ne_eqb, cond-true, cond-false}
 use Rattle.std.proofs.lemmas.List.{get_or-set_other}
 use Rattle.splitting.specs.Cells.{Holds, Unset, Fails, Met, clauses, Starts, Reads, Whole, InTable, flat}
@@ -7,13 +7,12 @@ use Rattle.splitting.specs.States.{Forced}
 use Rattle.splitting.specs.Trails.{Kept, Front, FrontBy, AllMet, Good, Clash}
 use Rattle.splitting.specs.Passes.{Free, Passing, opened, due, pass_end, Ended}
 use Rattle.splitting.specs.declared.propagate.End.{End}
-use Rattle.splitting.specs.declared.propagate.End.TheVariants.{Done, Stuck, Choose}
+use Rattle.splitting.specs.declared.propagate.End.TheVariants.{Done, Choose}
 use Rattle.splitting.specs.declared.propagate.Pass.{Pass}
 use Rattle.splitting.specs.declared.propagate.Pass.TheVariants as pass
 use Rattle.splitting.proofs.Steps.{ended}
 use Rattle.splitting.proofs.Tables.{holds_push, holds_here, at_set}
 use Rattle.splitting.proofs.Entails.{good_write, denied_of}
-use Rattle.splitting.proofs.Weights.{less_more}
 
 -- a clause at the front that is met
 pub front_past : (cells value : List ℕ) (front p next front' : ℕ) (c : List ℕ)

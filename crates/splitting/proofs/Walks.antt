@@ -1,13 +1,12 @@
 -- Down the trail from a conflict: what each place leaves of what counts.
-use Rattle.std.proofs.Common.{◌≡◌, ℕ, ◌+◌, ◌-◌, ◌/◌, ◌%◌, ◌<◌, ◌≤◌, Bool, true, false, not, eqb, ◌≢◌, ◌⊎◌, List, [], length, get_or, set, sym, refl, ap, ◌∙◌, subst, inl, inr, arith}
-use Rattle.std.proofs.lemmas.List.{get_or-set_same, get_or-set_other}
+use Rattle.std.proofs.Common.{◌≡◌, ℕ, ◌+◌, ◌-◌, ◌/◌, ◌%◌, ◌<◌, ◌≤◌, Bool, true, false, not, eqb, List, [], length, get_or, set, sym, ap, subst, inl, inr, arith}
+use Rattle.std.proofs.lemmas.List.{get_or-set_other}
 use Rattle.std.proofs.lemmas.Bool.{cases_eq, cases_lt, false≢true, ne_eqb}
 use Rattle.splitting.specs.Cells.{clauses}
-use Rattle.splitting.specs.Trails.{True, Models, Seen, SeenTrue, OpenTrue, Follows, Denied, Forces, Clash, Grows}
+use Rattle.splitting.specs.Trails.{True, Models, Seen, SeenTrue, OpenTrue, Follows, Denied, Forces, Grows}
 use Rattle.splitting.specs.Blames.{Counts, Blamed, Placed, at_open, at_turned}
 use Rattle.splitting.specs.declared.blame.Blame.{Blame}
 use Rattle.splitting.specs.declared.blame.Blame.TheVariants.{Marked, Every, Place}
-use Rattle.splitting.proofs.Tables.{at_set}
 
 -- a denied literal is false where the trail's is true
 denied_false : (m : ℕ → ℕ) (trail : List ℕ) (i l : ℕ) (d : Denied trail i l) → True m (get_or trail d.place 0) → True m l → ⊥

@@ -1,5 +1,5 @@
 -- Passes over the clauses.
-use Rattle.std.specs.Prelude.{◌≡◌, ℕ, ◌+◌, ◌-◌, ◌*◌, ◌/◌, ◌<◌, Bool, true, false, List, length, Some, None, Option}
+use Rattle.std.specs.Prelude.{◌≡◌, ℕ, ◌/◌, ◌<◌, Bool, true, false, List, length, Some, None, Option}
 use Rattle.splitting.specs.Cells.{Unset}
 use Rattle.splitting.specs.Trails.{AllMet, Clash}
 use Rattle.splitting.specs.declared.propagate.Pass.{Pass}

@@ -1,6 +1,6 @@
 -- How a clause stands under a table of values, by its first literals.
-use Rattle.std.specs.Prelude.{◌≡◌, ℕ, ◌<◌, List, length, ◌≢◌, slice_index, slice_index_or}
-use Rattle.splitting.specs.Cells.{Holds, Unset, Fails, Met}
+use Rattle.std.specs.Prelude.{◌≡◌, ℕ, ◌<◌, List, ◌≢◌, slice_index, slice_index_or}
+use Rattle.splitting.specs.Cells.{Unset, Fails, Met}
 use Rattle.splitting.specs.declared.clause.State.{State}
 use Rattle.splitting.specs.declared.clause.State.TheVariants.{Satisfied, Forces, Conflict, Open}
 

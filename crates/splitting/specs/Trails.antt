@@ -1,8 +1,8 @@
 -- The state of a search: a trail of literals, each with a reason, and a table of the values that they give.
 -- The places below `base` hold the assumptions. From there on an odd reason says that the place is an open decision, 0 that
 -- it was one and is turned round, and any other that a clause forces its literal.
-use Rattle.std.specs.Prelude.{◌≡◌, ℕ, zero, suc, ◌+◌, ◌-◌, ◌*◌, ◌/◌, ◌%◌, ◌^◌, ◌<◌, ◌≤◌, List, [], ◌∷◌, ◌++◌, length, get_or, take, ◌≢◌, slice_index, slice_index_or}
-use Rattle.splitting.specs.Cells.{Holds, Unset, Met, clauses, Starts}
+use Rattle.std.specs.Prelude.{◌≡◌, ℕ, zero, suc, ◌+◌, ◌-◌, ◌*◌, ◌/◌, ◌%◌, ◌^◌, ◌<◌, ◌≤◌, List, [], ◌∷◌, length, get_or, take, ◌≢◌, slice_index, slice_index_or}
+use Rattle.splitting.specs.Cells.{Holds, Met, clauses, Starts}
 
 -- how many variables have no value
 abbrev pub zeros : List ℕ → ℕ

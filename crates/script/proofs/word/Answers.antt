@@ -1,7 +1,6 @@
-use Rattle.std.proofs.Common.{◌≡◌, ◌+◌, ◌-◌, ◌*◌, ◌<◌, min, false, length, get_or, sym, ap, ◌∙◌, arith}
+use Rattle.std.proofs.Common.{◌≡◌, ◌+◌, ◌-◌, ◌*◌, min, false, length, get_or, sym, ◌∙◌, arith}
 use borrow.Author.Tests.{eqb-false}
 use Rattle.std.proofs.lemmas.List.{at_drop_all}
-use Rattle.std.proofs.lemmas.Bool.Decides.{nat_tests}
 use Rattle.script.specs.Asked.{is_digit, all_digits, largest}
 use Rattle.script.proofs.Words.{bounded_on, digits_more, bounded_more, digits_end, below_digit, above_digit, word_none, word_some}
 use Rattle.script.proofs.word.Goals as goal

@@ -1,6 +1,6 @@
-use Rattle.std.proofs.Common.{◌≡◌, Ok, Err, Result, ap, ◌∙◌, arith, rules}
+use Rattle.std.proofs.Common.{Ok, Result, ap, ◌∙◌, arith, rules}
 use Rattle.aiger.specs.declared.fault.ReadFault.{ReadFault}
-use Rattle.aiger.specs.Advance.{State, and_then, state_of}
+use Rattle.aiger.specs.Advance.{and_then, state_of}
 use Rattle.aiger.proofs.Files.{turn, stop, cut_shorter, unfinished_turn, plain_end, both_ended}
 use Rattle.aiger.proofs.Fitting.{keep}
 use Rattle.aiger.proofs.file.read_lines.Goals as goal

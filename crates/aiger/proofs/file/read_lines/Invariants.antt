@@ -1,4 +1,4 @@
-use Rattle.std.proofs.Common.{◌≡◌, ℕ, ◌+◌, ◌≤◌, length}
+use Rattle.std.proofs.Common.{◌≡◌, ◌+◌, ◌≤◌, length}
 use Rattle.aiger.specs.Advance.{state_of, Fits}
 use Rattle.aiger.specs.Read.{folded, lines_of}
 use Rattle.aiger.proofs.file.read_lines.Given as goal

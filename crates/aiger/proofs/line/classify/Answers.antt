@@ -1,6 +1,5 @@
-use Rattle.std.proofs.Common.{◌≡◌, ◌<◌, length, sym, ap, arith, rules}
+use Rattle.std.proofs.Common.{rules}
 use Rattle.aiger.specs.Line.{line_of}
-use Rattle.std.proofs.lemmas.List.{nil_from_length}
 use Rattle.aiger.proofs.Lines.{line_parts, line_whole, line_empty}
 use Rattle.aiger.proofs.line.classify.Goals as goal
 

@@ -1,5 +1,5 @@
 use Rattle.aiger.specs.Line.{five_of}
-use Rattle.std.proofs.Common.{arith, rules}
+use Rattle.std.proofs.Common.{rules}
 use Rattle.aiger.proofs.line.five_numbers.Goals as goal
 
 pub returns-in_default : goal.returns-in_default

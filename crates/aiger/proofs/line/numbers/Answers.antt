@@ -1,5 +1,5 @@
 use Rattle.aiger.specs.Line.{numbers_of}
-use Rattle.std.proofs.Common.{arith, rules}
+use Rattle.std.proofs.Common.{rules}
 use Rattle.aiger.proofs.line.numbers.Goals as goal
 
 pub returns-in-Some-number : goal.returns-in-Some-number

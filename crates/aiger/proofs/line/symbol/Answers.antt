@@ -1,5 +1,5 @@
 use Rattle.aiger.specs.Line.{symbol_of}
-use Rattle.std.proofs.Common.{arith, rules}
+use Rattle.std.proofs.Common.{rules}
 use Rattle.aiger.proofs.line.symbol.Goals as goal
 
 pub returns-in-Some : goal.returns-in-Some

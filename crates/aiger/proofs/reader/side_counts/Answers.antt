@@ -1,4 +1,4 @@
-use Rattle.std.proofs.Common.{◌≡◌, ◌+◌, rules}
+use Rattle.std.proofs.Common.{rules}
 use Rattle.circuit.specs.Parts.{blank_input}
 use Rattle.circuit.specs.Sound.{answer_count, event_count}
 use Rattle.std.proofs.lemmas.List.{at_drop_more, at_drop_all}

@@ -1,4 +1,4 @@
-use Rattle.std.proofs.Common.{◌≡◌, ℕ, ◌+◌, ◌≤◌, take, drop}
+use Rattle.std.proofs.Common.{◌≡◌, ◌+◌, ◌≤◌, drop}
 use Rattle.circuit.specs.Sound.{answer_count, event_count}
 use Rattle.aiger.proofs.reader.side_counts.Given as goal
 

@@ -1,4 +1,4 @@
-use Rattle.std.proofs.Common.{◌≡◌, ◌≤◌, length, drop, sym, refl, ap, ◌∙◌, arith, rules}
+use Rattle.std.proofs.Common.{◌≤◌, length, refl, arith, rules}
 use Rattle.aiger.specs.Format.{written}
 use Rattle.aiger.proofs.Writing.{from_start, written_short}
 use Rattle.aiger.proofs.writer.emit.Goals as goal

@@ -1,5 +1,5 @@
-use Rattle.std.proofs.Common.{◌≡◌, ◌≤◌, length, ap, ◌∙◌, arith, rules}
-use Rattle.circuit.proofs.Soundness.{Soundness, soundness}
+use Rattle.std.proofs.Common.{◌≡◌, length, ap, ◌∙◌, arith}
+use Rattle.circuit.proofs.Soundness.{soundness}
 use Rattle.aiger.proofs.Writing.{inputs_length}
 use Rattle.aiger.proofs.writer.header_of.Goals as goal
 

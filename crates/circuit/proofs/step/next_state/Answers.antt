@@ -1,4 +1,4 @@
-use Rattle.std.proofs.Common.{◌≡◌, ◌+◌, ◌*◌, ◌%◌, ◌^◌, ◌<◌, ◌≤◌, true, false, length, sym, refl, ap, ◌∙◌, arith, pow_mono}
+use Rattle.std.proofs.Common.{◌*◌, ◌^◌, ◌≤◌, true, false, length, ap, arith, pow_mono}
 use Rattle.std.proofs.lemmas.Nat.{one_shl}
 use Rattle.std.proofs.lemmas.List.{at_drop_all}
 use Rattle.literal.specs.Truth.{values_of}

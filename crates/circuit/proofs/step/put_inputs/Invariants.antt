@@ -1,4 +1,4 @@
-use Rattle.std.proofs.Common.{◌≡◌, length, drop}
+use Rattle.std.proofs.Common.{◌≡◌, drop}
 use Rattle.literal.specs.Truth.{values_of}
 use Rattle.circuit.specs.Step.{with_inputs}
 use Rattle.circuit.proofs.step.put_inputs.Given as goal

@@ -1,4 +1,4 @@
-use Rattle.std.proofs.Common.{◌≡◌, length, drop}
+use Rattle.std.proofs.Common.{◌≡◌, drop}
 use Rattle.literal.specs.Truth.{values_of}
 use Rattle.circuit.specs.Step.{with_latches}
 use Rattle.circuit.proofs.step.put_latches.Given as goal

@@ -4,7 +4,7 @@ use Rattle.dimacs.proofs.solve.solve.Goals as goal
 
 pub returns : goal.returns
 returns c =
-    settled c.args.text.now c.in-ok-header.rest.now c.in-ok-header.header (vec_items c.in-ok-entries.entries) c.deref.result.now
-    c.decide.new.values _ c.in-ok-answer.answer c.in-ok-header.ensures c.in-ok-entries.ensures c.deref.ensures.value
-    (lent c.decide.new.values c.in-ok-values.values.items c.in-ok-values.values.len (c.decide.auto.values ∙ c.deref-mut-2.ensures.len))
-    c.in-ok-answer.ensures
+    settled c.args.text.now c.in_ok-header.rest.now c.in_ok-header.header (vec_items c.in_ok-entries.entries) c.deref.result.now
+    c.decide.new.values _ c.in_ok-answer.answer c.in_ok-header.ensures c.in_ok-entries.ensures c.deref.ensures.value
+    (lent c.decide.new.values c.in_ok-values.values.items c.in_ok-values.values.len (c.decide.auto.values ∙ c.deref_mut-2.ensures.len))
+    c.in_ok-answer.ensures

@@ -1,8 +1,8 @@
-use Rattle.std.proofs.Common.{vec_items, rules}
+use Rattle.std.proofs.Common.{vec_items}
 use Rattle.std.proofs.lemmas.Result.{err_from_is_err_and}
 use Rattle.dimacs_text.specs.Words.{content, lines}
 use Rattle.dimacs_text.specs.Entries.{SomeUnspelled}
-use Rattle.dimacs_text.proofs.Readings.{line_on, line_further, line_unread, line_last}
+use Rattle.dimacs_text.proofs.Readings.{line_on, line_further, line_unread}
 use Rattle.dimacs_text.proofs.body.entries.Goals as goal
 
 pub returns-in_err-push_line : goal.returns-in_err-push_line

@@ -1,5 +1,5 @@
 use Rattle.std.proofs.Common.{arith}
-use Rattle.dimacs_text.proofs.Spellings.{negative, positive, negative_none, negative_zero, positive_none}
+use Rattle.dimacs_text.proofs.Spellings.{negative_none, negative_zero}
 use Rattle.dimacs_text.proofs.entry.entry.Goals as goal
 
 pub returns-in_err-variable : goal.returns-in_err-variable

@@ -1,6 +1,5 @@
-use Rattle.std.proofs.Common.{arith}
 use Rattle.encoding.proofs.Holding.{whole_from}
-use Rattle.encoding.proofs.Sizes.{answer_fits, candidate_fits}
+use Rattle.encoding.proofs.Sizes.{answer_fits}
 use Rattle.encoding.proofs.answer.hold_answer_row.Goals as goal
 
 pub returns : goal.returns

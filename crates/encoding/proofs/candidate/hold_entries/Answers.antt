@@ -1,6 +1,6 @@
-use Rattle.std.proofs.Common.{◌≡◌, ◌≤◌, map, length, sym, refl, ap, ◌∙◌, arith}
+use Rattle.std.proofs.Common.{◌≡◌, ◌≤◌, map, length, sym, ap, ◌∙◌, arith}
 use Rattle.std.proofs.lemmas.List.{take_all}
-use Rattle.encoding.specs.Literals.{positive, entry_variable, next_literals, cared}
+use Rattle.encoding.specs.Literals.{positive, entry_variable, next_literals}
 use Rattle.encoding.specs.Clauses.{implies, entry_clauses}
 use Rattle.encoding.specs.Tables.{literals_in}
 use Rattle.encoding.proofs.Holding.{held_is}

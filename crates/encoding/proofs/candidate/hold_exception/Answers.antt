@@ -1,6 +1,6 @@
 use Rattle.std.proofs.Common.{arith}
 use Rattle.encoding.proofs.Holding.{whole_from}
-use Rattle.encoding.proofs.Sizes.{answer_fits, candidate_fits}
+use Rattle.encoding.proofs.Sizes.{candidate_fits}
 use Rattle.encoding.proofs.candidate.hold_exception.Goals as goal
 
 pub returns : goal.returns

@@ -1,4 +1,4 @@
-use Rattle.std.proofs.Common.{◌≡◌, [], ◌∷◌, ◌++◌, refl}
+use Rattle.std.proofs.Common.{[], ◌∷◌, ◌++◌, refl}
 use Rattle.std.proofs.lemmas.Result.{err_from_is_err_and}
 use Rattle.encoding.specs.Clauses.{outside_clause, entry_clauses, choice_clause, candidate_row}
 use Rattle.encoding.proofs.Holding.{then_is, stop_is, held_then, held_stop}

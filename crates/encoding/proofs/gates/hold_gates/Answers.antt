@@ -1,4 +1,3 @@
-use Rattle.std.proofs.Common.{rules}
 use Rattle.std.proofs.lemmas.Result.{err_from_is_err_and}
 use Rattle.encoding.specs.Clauses.{gate_clauses}
 use Rattle.encoding.proofs.Holding.{loop_none, loop_more, loop_stop, loop_all}

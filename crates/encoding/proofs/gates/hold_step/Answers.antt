@@ -1,8 +1,6 @@
-use Rattle.std.proofs.Common.{◌≡◌, ◌+◌, [], ◌∷◌, ◌++◌, ap, ◌∙◌}
+use Rattle.std.proofs.Common.{◌≡◌, [], ◌∷◌, ◌++◌, ap, ◌∙◌}
 use Rattle.std.proofs.lemmas.Result.{err_from_is_err_and}
 use Rattle.std.specs.List.{flat_map}
-use Rattle.circuit.specs.Parts.{gates_of}
-use Rattle.encoding.specs.Literals.{positive}
 use Rattle.encoding.specs.Clauses.{gate_clauses, constant_clause, step_clauses}
 use Rattle.encoding.proofs.Holding.{then_is, stop_is}
 use Rattle.encoding.proofs.gates.hold_step.Goals as goal

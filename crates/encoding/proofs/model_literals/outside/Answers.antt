@@ -1,4 +1,4 @@
-use Rattle.std.proofs.Common.{take, sym, refl, arith}
+use Rattle.std.proofs.Common.{sym, arith}
 use Rattle.std.proofs.lemmas.List.{take_all}
 use Rattle.encoding.proofs.Tables.{mask_clause}
 use Rattle.encoding.proofs.model_literals.outside.Goals as goal

@@ -1,5 +1,5 @@
 use Rattle.std.proofs.Common.{◌+◌, ◌++◌, map, take, drop, sym, ap, ◌∙◌}
-use Rattle.std.proofs.lemmas.List.{at_drop_more, at_drop_all}
+use Rattle.std.proofs.lemmas.List.{at_drop_all}
 use Rattle.circuit.specs.Settled.{of_side}
 use Rattle.encoding.specs.Tables.{literals_in}
 use Rattle.encoding.proofs.Tables.{put_more, put_none, put_all, side_yes, side_no}

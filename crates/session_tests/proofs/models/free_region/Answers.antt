@@ -7,4 +7,4 @@ join-requires c = free_sound c.args.«record».now c.requires
 
 pub join-requires-2 : goal.join-requires-2
 join-requires-2 c =
-    free_exact c.join.result.«record».now c.join.result.gates.now (c.join.ensures.same-record ∙ c.requires) c.join.ensures.same-gates
+    free_exact c.join.result.«record».now c.join.result.gates.now (c.join.ensures.same_record ∙ c.requires) c.join.ensures.same_gates

@@ -7,4 +7,4 @@ join-requires c = nothing_sound c.args.«record».now c.requires
 
 pub join-requires-2 : goal.join-requires-2
 join-requires-2 c =
-    nothing_exact c.join.result.«record».now c.join.result.gates.now (c.join.ensures.same-record ∙ c.requires) c.join.ensures.same-gates
+    nothing_exact c.join.result.«record».now c.join.result.gates.now (c.join.ensures.same_record ∙ c.requires) c.join.ensures.same_gates

@@ -7,5 +7,5 @@ join-requires c = one_latch_sound c.args.«record».now c.args.gates.now c.requi
 
 pub join-requires-2 : goal.join-requires-2
 join-requires-2 c =
-    one_latch_exact c.join.result.«record».now c.join.result.gates.now c.args.rows.now (c.join.ensures.same-record ∙ c.requires.host)
-    (c.join.ensures.same-gates ∙ c.requires.gate) c.requires.row
+    one_latch_exact c.join.result.«record».now c.join.result.gates.now c.args.rows.now (c.join.ensures.same_record ∙ c.requires.host)
+    (c.join.ensures.same_gates ∙ c.requires.gate) c.requires.row

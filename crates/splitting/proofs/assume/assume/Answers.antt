@@ -1,4 +1,4 @@
-use Rattle.std.proofs.Common.{◌≡◌, ℕ, ◌+◌, ◌/◌, ◌<◌, length, get_or, sym, ap, ◌∙◌, arith}
+use Rattle.std.proofs.Common.{◌≡◌, ◌+◌, ◌/◌, ◌<◌, length, get_or, sym, ap, ◌∙◌, arith}
 use Rattle.splitting.specs.Cells.{codes}
 use Rattle.splitting.proofs.Tables.{kept_none}
 use Rattle.splitting.proofs.Givens.{code_is, length_codes, assumed_none, assumed_push, assumed_again, assumed_as, contrary}

@@ -1,4 +1,4 @@
-use Rattle.std.proofs.Common.{◌≡◌, ℕ, ◌+◌, ◌-◌, ◌/◌, ◌%◌, ◌<◌, ◌≤◌, not, eqb, List, length, get_or, sym, refl, ap, ◌∙◌, subst, arith}
+use Rattle.std.proofs.Common.{◌≡◌, ℕ, ◌+◌, ◌-◌, ◌/◌, ◌<◌, ◌≤◌, not, eqb, List, length, get_or, sym, ◌∙◌, subst, arith}
 use Rattle.splitting.specs.Cells.{Starts}
 use Rattle.splitting.specs.Blames.{Blamed, Placed, at_open, at_turned}
 use Rattle.splitting.specs.Trails.{Seen}

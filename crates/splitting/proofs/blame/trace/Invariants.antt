@@ -1,4 +1,4 @@
-use Rattle.std.proofs.Common.{ℕ, ◌≤◌, length}
+use Rattle.std.proofs.Common.{◌≤◌}
 use Rattle.splitting.specs.Trails.{Grows}
 use Rattle.splitting.specs.Blames.{Blamed, Placed}
 use Rattle.splitting.proofs.blame.trace.Given as goal

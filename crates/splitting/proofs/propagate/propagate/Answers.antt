@@ -1,7 +1,7 @@
-use Rattle.std.proofs.Common.{◌≡◌, ℕ, ◌+◌, ◌*◌, ◌/◌, ◌<◌, length, sym, refl, ap, ◌∙◌, arith}
+use Rattle.std.proofs.Common.{◌≡◌, ◌+◌, ◌*◌, ◌/◌, ◌<◌, length, refl, ap, ◌∙◌, arith}
 use Rattle.std.proofs.lemmas.Bool.{leb-true}
 use Rattle.splitting.specs.Passes.{due}
-use Rattle.splitting.proofs.Sweeps.{front_past, passing_past, passing_open, due_open, pass_ended, front_push, forced_met, in_table, good_forced, same_more, new_more, sweep_pushed, sweep_on}
+use Rattle.splitting.proofs.Sweeps.{front_past, passing_past, due_open, pass_ended, front_push, forced_met, in_table, good_forced, same_more, new_more, sweep_pushed, sweep_on}
 use Rattle.splitting.proofs.Weights.{less_more}
 use Rattle.splitting.proofs.propagate.propagate.Goals as goal
 

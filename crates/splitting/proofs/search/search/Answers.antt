@@ -1,4 +1,4 @@
-use Rattle.std.proofs.Common.{◌≡◌, ℕ, ◌+◌, ◌<◌, ◌≤◌, length, get_or, ap, ◌∙◌, subst, arith}
+use Rattle.std.proofs.Common.{◌<◌, ◌≤◌, length, get_or, ap, ◌∙◌, subst, arith}
 use Rattle.splitting.specs.Trails.{FrontBy, Follows}
 use Rattle.splitting.specs.Passes.{Ended, Free}
 use Rattle.splitting.specs.declared.propagate.End.{End}

@@ -1,4 +1,4 @@
-use Rattle.std.proofs.Common.{◌≡◌, ℕ, ◌<◌, ◌≤◌, get_or}
+use Rattle.std.proofs.Common.{◌≡◌, ℕ, ◌<◌, get_or}
 use Rattle.splitting.specs.Trails.{Good, Front, Follows, left}
 use Rattle.splitting.proofs.search.search.Given as goal
 

@@ -1,4 +1,4 @@
-use Rattle.std.proofs.Common.{◌≡◌, ◌<◌, ◌≢◌, length, inl, inr, arith, below_more}
+use Rattle.std.proofs.Common.{◌<◌, ◌≢◌, length, inl, inr, arith, below_more}
 use Rattle.std.proofs.lemmas.List.{get_or-set_same, get_or-set_other, get_or_past}
 use Rattle.std.proofs.lemmas.Bool.{cases_lt}
 use Rattle.splitting.proofs.solve.clear.Goals as goal

@@ -1,4 +1,4 @@
-use Rattle.std.proofs.Common.{◌≡◌, take, sym, ap, ◌∙◌, arith}
+use Rattle.std.proofs.Common.{◌≡◌, take, ap, ◌∙◌, arith}
 use Rattle.splitting.specs.Cells.{clauses, flat}
 use Rattle.splitting.proofs.Codes.{front_of, front_all}
 use Rattle.splitting.proofs.store.place.Goals as goal

@@ -1,4 +1,4 @@
-use Rattle.std.proofs.Common.{ℕ, ◌-◌, ◌≤◌, length}
+use Rattle.std.proofs.Common.{◌-◌, ◌≤◌, length}
 use Rattle.splitting.specs.Cells.{Starts}
 use Rattle.splitting.proofs.store.place.Given as goal
 

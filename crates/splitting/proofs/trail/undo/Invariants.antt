@@ -1,4 +1,4 @@
-use Rattle.std.proofs.Common.{ℕ, ◌<◌, ◌≤◌, get_or}
+use Rattle.std.proofs.Common.{◌<◌, ◌≤◌, get_or}
 use Rattle.splitting.specs.Cells.{Unset}
 use Rattle.splitting.specs.Trails.{Kept}
 use Rattle.splitting.proofs.trail.undo.Given as goal

@@ -60,7 +60,7 @@ hold_row-requires g c =
       cells = (let e = ap (λ cs. cells_of (take c.fixed_clauses-fixed.result cs)) held ∙ ap cells_of (candidate_keep r gs items xs c.fixed_clauses-fixed.result k) in
           let room = row_cells r gs m.fit R E V cells W cellsW c.requires.room items xs free in omega arith);
       answer_variables = c.requires.room.answer_variables;
-      answer_cells_lem = (let e = ap cells_of c.requires.turning.answer in
+      answer_cells = (let e = ap cells_of c.requires.turning.answer in
           let room = answer_cells_lem r gs m.fit R E V cells W cellsW c.requires.room items xs free in omega arith);
     }
 

@@ -27,8 +27,8 @@ returns-in_default g c =
 pub returns-in_err-reply : goal.returns-in_err-reply
 returns-in_err-reply g c = absurd c.in_err-reply.ensures.cases
 
-pub returns-in-err-exception : goal.returns-in-err-exception
-returns-in-err-exception g c = absurd c.in-err-exception.ensures.cases
+pub returns-in_err-exception-in-Answered : goal.returns-in_err-exception-in-Answered
+returns-in_err-exception-in-Answered g c = absurd c.in_err-exception-in-Answered.ensures.cases
 
 pub add_row-requires : goal.add_row-requires
 add_row-requires g c =

@@ -1,4 +1,4 @@
-use Rattle.std.proofs.Common.{◌≡◌, ℕ, ◌+◌, ◌≤◌, take, drop}
+use Rattle.std.proofs.Common.{◌≡◌, ◌+◌, drop}
 use Rattle.circuit.specs.Parts.{latches_of}
 use Rattle.aiger.specs.Advance.{close_from, close_on}
 use Rattle.aiger.proofs.reader.Reader.check_operands.Given as goal

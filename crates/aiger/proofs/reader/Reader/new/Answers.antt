@@ -1,4 +1,4 @@
-use Rattle.std.proofs.Common.{◌≡◌, ap, ◌∙◌}
+use Rattle.std.proofs.Common.{ap, ◌∙◌}
 use Rattle.circuit.specs.declared.record.Record.{Record}
 use Rattle.aiger.specs.Advance.{start_of, start_from, leave_inputs}
 use Rattle.aiger.proofs.reader.Reader.new.Goals as goal

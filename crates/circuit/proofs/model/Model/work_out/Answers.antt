@@ -1,11 +1,10 @@
-use Rattle.std.proofs.Common.{◌≡◌, ℕ, ◌<◌, List, length, sym, ap, ◌∙◌, subst}
+use Rattle.std.proofs.Common.{ℕ, ◌<◌, List, length, sym, ap, ◌∙◌, subst}
 use Rattle.std.specs.List.{AllByRecursion as All}
-use Rattle.literal.specs.Truth.{variable_of, values_of}
+use Rattle.literal.specs.Truth.{variable_of}
 use Rattle.circuit.specs.declared.record.Gate.{Gate}
 use Rattle.circuit.specs.declared.record.Input.{Input}
 use Rattle.circuit.specs.declared.record.Latch.{Latch}
-use Rattle.circuit.specs.Parts.{inputs_of, latches_of, gates_of}
-use Rattle.circuit.specs.Step.{all_false, with_inputs, with_latches, with_gates, values_at}
+use Rattle.circuit.specs.Step.{with_inputs, with_latches, with_gates, values_at}
 use Rattle.circuit.proofs.Places.{inputs_in_place, latches_in_place, gates_in_place}
 use Rattle.circuit.proofs.model.Model.work_out.Goals as goal
 

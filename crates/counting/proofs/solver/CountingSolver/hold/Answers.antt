@@ -1,7 +1,6 @@
 use Rattle.std.proofs.Common.{◌-◌, sym, refl, ap, ◌∙◌, arith}
 use Rattle.std.proofs.lemmas.Result.{err_from_is_err_and}
 use Rattle.sat.specs.Faults.{hold_fault}
-use Rattle.counting.specs.Held.{room}
 use Rattle.sat.proofs.Checks.{hold_none}
 use Rattle.counting.proofs.Stores.{solver_push, solver_free, solver_count}
 use Rattle.counting.proofs.solver.CountingSolver.hold.Goals as goal

@@ -1,5 +1,5 @@
-use Rattle.std.proofs.Common.{◌+◌, ◌/◌, [], ◌∷◌, ◌++◌, map, take, drop, sym, ap, ◌∙◌}
-use Rattle.std.proofs.lemmas.List.{at_drop_more, at_drop_all}
+use Rattle.std.proofs.Common.{◌+◌, ◌/◌, [], ◌∷◌, ◌++◌, take, drop, ap, ◌∙◌}
+use Rattle.std.proofs.lemmas.List.{at_drop_all}
 use Rattle.circuit.specs.Parts.{blank_literal}
 use Rattle.encoding.specs.Literals.{cared}
 use Rattle.encoding.specs.Tables.{literals_in}

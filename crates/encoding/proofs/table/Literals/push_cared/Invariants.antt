@@ -1,4 +1,4 @@
-use Rattle.std.proofs.Common.{◌≡◌, ◌++◌, map, take, drop}
+use Rattle.std.proofs.Common.{◌≡◌, ◌++◌, take, drop}
 use Rattle.encoding.specs.Literals.{cared}
 use Rattle.encoding.specs.Tables.{literals_in}
 use Rattle.encoding.proofs.table.Literals.push_cared.Given as goal

@@ -1,4 +1,4 @@
-use Rattle.std.proofs.Common.{◌≡◌, ℕ, ◌<◌, None, sym, refl, inl, inr, arith, below_more}
+use Rattle.std.proofs.Common.{◌≡◌, ℕ, None, sym, refl, inl, inr, arith, below_more}
 use Rattle.std.proofs.lemmas.Bool.{cases_lt}
 use Rattle.region.specs.Judged.{passing}
 use Rattle.region.specs.Parts.{arena_in, rows_in}

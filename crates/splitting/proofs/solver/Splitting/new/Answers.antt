@@ -1,4 +1,4 @@
-use Rattle.std.proofs.Common.{◌≡◌, ℕ, ◌-◌, ◌≤◌, length, sym, ap, ◌∙◌, subst, arith}
+use Rattle.std.proofs.Common.{length, sym, ◌∙◌, arith}
 use Rattle.splitting.specs.Sizes.{sizes_fit}
 use Rattle.splitting.proofs.Memories.{none_held, column_holds, fit_empty}
 use Rattle.splitting.proofs.solver.Splitting.new.Goals as goal
