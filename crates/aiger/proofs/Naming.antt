@@ -106,7 +106,7 @@ comment_forward at cs st e =
 abbrev pub TailLines : List Content → Type 0
 TailLines cs = (cs ≡ []) ⊎ ((ds : List Content) × (cs ≡ comment ∷ ds))
 
-pub record Symbol-lines (st : State) (cs : List Content) (t : State) : Type 0 where
+pub record SymbolLines (st : State) (cs : List Content) (t : State) : Type 0 where
   pub symbols : List Symbol
   pub tail : List Content
   pub is : cs ≡ map symbol_line symbols ++ tail
@@ -143,7 +143,7 @@ line_took at c st u e a =
     (λ w. inr (w.0, sym w.1))
     (symbol_took _ _ (fault.BadSymbol at) c u (ap (λ q. advance_at q at c st) (sym e) ∙ a))
 
-pub symbols_backward : (cs : List Content) (at : ℕ) (st t : State) → st.reader.section ≡ Symbols → folded at cs st ≡ Ok t → Symbol-lines st cs t
+pub symbols_backward : (cs : List Content) (at : ℕ) (st t : State) → st.reader.section ≡ Symbols → folded at cs st ≡ Ok t → SymbolLines st cs t
 symbols_backward [] at st t e f =
     let a = then_took (sides_on st.reader.model) (λ _. Ok st) t (sym (end_forward at st e) ∙ f) in
     let same : st ≡ t = let h = a.2 in cc in

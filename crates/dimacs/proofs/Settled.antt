@@ -1,9 +1,9 @@
 -- From entries to the text that they were read from.
-use Rattle.std.proofs.Common.{◌≡◌, ℕ, List, ◌++◌, length, take, drop, sym, refl, ap, ◌∙◌, subst}
+use Rattle.std.proofs.Common.{◌≡◌, ℕ, List, ◌++◌, length, take, drop, sym, ap, ◌∙◌, subst}
 use Rattle.std.proofs.lemmas.List.{take_at}
 use Rattle.literal.specs.declared.Literal.{Literal}
 use Rattle.sat.specs.declared.answer.Answer.{Answer}
-use Rattle.dimacs_text.specs.Entries.{terminated, spellings}
+use Rattle.dimacs_text.specs.Entries.{spellings}
 use Rattle.dimacs_text.specs.Words.{content, lines}
 use Rattle.dimacs_text.specs.Headers.{header_words}
 use Rattle.dimacs_text.specs.declared.head.Header.{Header}

@@ -1,5 +1,5 @@
 -- What an answer says of a DIMACS text.
-use Rattle.std.specs.Prelude.{◌≡◌, ℕ, ◌≤◌, true, List, [], ◌++◌, length, get_or, Some, None, Option}
+use Rattle.std.specs.Prelude.{◌≡◌, ℕ, true, List, [], ◌++◌, length}
 use Rattle.literal.specs.declared.Literal.{Literal}
 use Rattle.sat.specs.declared.answer.Answer.{Answer}
 use Rattle.sat.specs.declared.answer.Answer.TheVariants.{Yes, No}

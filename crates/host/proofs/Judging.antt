@@ -1,5 +1,5 @@
 -- What a run's answer gives to whoever serves.
-use Rattle.std.proofs.Common.{◌≡◌, ℕ, List, Some, None, Ok, Err, Option, Result, subst, arith}
+use Rattle.std.proofs.Common.{◌≡◌, ℕ, List, Some, None, Ok, Option, subst, arith}
 use Rattle.game.specs.Game.{Arena}
 use Rattle.game.specs.Models.{model_arena}
 use Rattle.game.specs.Runs as runs

@@ -1,9 +1,9 @@
 -- A call is told one thing, so whoever makes the same calls is told the same.
-use Rattle.std.proofs.Common.{◌≡◌, ℕ, ◌<◌, ◌≤◌, ◌⊎◌, List, [], ◌∷◌, map, sym, refl, ap, ◌∙◌, subst, inl, inr, arith}
+use Rattle.std.proofs.Common.{◌≡◌, ℕ, ◌<◌, [], ◌∷◌, sym, refl, ap, ◌∙◌, subst, inl, inr, arith}
 use Rattle.std.proofs.lemmas.Bool.{both_ways, cases_order}
 use Rattle.region.specs.Subject.{Arena}
 use Rattle.session.specs.Laws.{Keeps, Breaks}
-use Rattle.session.specs.Sessions.{Stage, waiting, pending}
+use Rattle.session.specs.Sessions.{Stage, waiting}
 use Rattle.host.specs.Served.{Told, raised, far_event, restarted, used, replaced, far_wish, not_allowed, Served, ServedAlike, calls_of}
 use Rattle.host.specs.declared.exchange.Call.{Call}
 use Rattle.host.specs.declared.exchange.Exchange.{Exchange}

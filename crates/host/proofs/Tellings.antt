@@ -1,16 +1,15 @@
 -- From what a session returns to what a call is told.
-use Rattle.std.proofs.Common.{◌≡◌, ℕ, ◌+◌, ◌<◌, ◌≤◌, Bool, true, false, cond, eqb, ◌⊎◌, List, [], ◌∷◌, ◌++◌, map, length, get_or, take, set, sym, refl, ap, ◌∙◌, subst, inl, inr, arith}
+use Rattle.std.proofs.Common.{◌≡◌, ℕ, ◌+◌, ◌<◌, true, false, cond, eqb, List, [], ◌∷◌, ◌++◌, length, get_or, take, set, sym, refl, ap, ◌∙◌, subst, inl, inr}
 use Rattle.std.proofs.lemmas.List.{take_more_set, map-set, set-get_or, get_or-map}
-use Rattle.std.proofs.lemmas.Bool.{both_ways, cases_order}
 use Rattle.region.specs.Subject.{Arena, Row}
 use Rattle.session.specs.Faults.{session_number}
-use Rattle.session.specs.Laws.{History, opened, more, Keeps, Breaks, Promise, Law}
+use Rattle.session.specs.Laws.{History, more, Promise, Law}
 use Rattle.session.specs.Sessions as sessions
 use Rattle.session.specs.Sessions.{Stage, waiting, pending, raising, settling, resetting, done, settled, refused, Allows, ForeignTo, Gives}
 use Rattle.session.specs.declared.fault.SessionFault.{SessionFault}
 use Rattle.session.specs.declared.fault.SessionFault.TheVariants.{Foreign, OutOfRange}
 use Rattle.host.specs.Answers.{Says, Answers}
-use Rattle.host.specs.Served.{call_of, Told, raised, far_event, restarted, used, replaced, far_wish, not_allowed, Served, ServedAlike, calls_of}
+use Rattle.host.specs.Served.{call_of, Told, raised, far_event, restarted, used, replaced, far_wish, not_allowed, Served, calls_of}
 use Rattle.host.specs.declared.exchange.Call.{Call}
 use Rattle.host.specs.declared.exchange.Call.TheVariants.{Raise, Settle, Reset}
 use Rattle.host.specs.declared.exchange.Exchange.{Exchange}

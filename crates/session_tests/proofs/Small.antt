@@ -1,12 +1,12 @@
 -- The small hosts are models, and their rows are exact.
-use Rattle.std.proofs.Common.{◌≡◌, ℕ, zero, suc, ◌<◌, true, false, List, [], ◌∷◌, sym, refl, ap, ◌∙◌, arith}
+use Rattle.std.proofs.Common.{◌≡◌, ℕ, zero, suc, ◌<◌, true, false, List, [], ◌∷◌, refl, ap, ◌∙◌}
 use Rattle.std.proofs.lemmas.Bool.{both_ways, and_from, not_from_false}
 use Rattle.circuit.specs.declared.record.Gate.{Gate}
 use Rattle.circuit.specs.declared.record.Record.{Record}
 use Rattle.circuit.specs.Parts.{blank_record}
 use Rattle.circuit.specs.Sound.{sound}
 use Rattle.circuit.specs.Step.{values_at}
-use Rattle.game.specs.Examples.{one_latch, one_gate, clearing, latch_set}
+use Rattle.game.specs.Examples.{one_latch, one_gate, latch_set}
 use Rattle.game.specs.Game.{Arena, lasts}
 use Rattle.game.specs.Models.{arena_of}
 use Rattle.game.specs.Runs.{Exact}

@@ -1,6 +1,6 @@
 -- What is left when a row or an exception is added, and that both solvers have room for it.
-use Rattle.std.proofs.Common.{◌≡◌, ℕ, zero, suc, ◌+◌, ◌-◌, ◌*◌, ◌<◌, ◌≤◌, Bool, true, false, ◌||◌, ◌⊎◌, List, [], ◌∷◌, ◌++◌, map, length, take, set, replicate, sym, refl, ap, ◌∙◌, subst, inl, inr, arith}
-use Rattle.std.proofs.lemmas.List.{length-append, length-take, length-set, length-replicate, length_push, append-nil}
+use Rattle.std.proofs.Common.{◌≡◌, ℕ, ◌+◌, ◌-◌, ◌*◌, ◌<◌, ◌≤◌, true, false, ◌||◌, List, [], ◌∷◌, ◌++◌, length, take, set, replicate, sym, refl, ap, ◌∙◌, subst, inl, inr, arith}
+use Rattle.std.proofs.lemmas.List.{length-take, length-set, length-replicate, length_push, append-nil}
 use Rattle.circuit.specs.declared.record.Gate.{Gate}
 use Rattle.circuit.specs.declared.record.Record.{Record}
 use Rattle.circuit.specs.Sound.{sound}
@@ -16,7 +16,7 @@ use Rattle.game.proofs.Covered.{covered-++}
 use Rattle.game.proofs.Models.{playable}
 use Rattle.game.proofs.Runs.{rows_push, exceptions_none, exceptions_push, lost_run}
 use Rattle.encoding.specs.Clauses.{answer_row, answer_clauses, candidate_row, exception_clause, candidate_clauses}
-use Rattle.encoding.specs.Laws.{candidate_variables, candidate_row_cells, candidate_base_cells, answer_variables, answer_row_cells, answer_base_cells, exception_cells}
+use Rattle.encoding.specs.Laws.{candidate_row_cells, candidate_base_cells, answer_row_cells, exception_cells}
 use Rattle.encoding.proofs.Sizes.{answer_fits, candidate_fits}
 use Rattle.synthesis.specs.Held.{fixed_clauses}
 use Rattle.synthesis.specs.Runs.{Laid, Roomy, Turning, Nearer}

@@ -1,5 +1,5 @@
 -- How many clauses there are before the exceptions.
-use Rattle.std.proofs.Common.{◌≡◌, ℕ, zero, suc, ◌+◌, ◌*◌, ◌/◌, ◌%◌, ◌^◌, ◌<◌, ◌≤◌, Bool, true, false, cond, eqb, ◌⊎◌, List, [], ◌∷◌, ◌++◌, map, length, get_or, take, drop, sym, refl, ap, ◌∙◌, inl, inr, pow-suc, arith, pow_mono}
+use Rattle.std.proofs.Common.{◌≡◌, ℕ, suc, ◌+◌, ◌*◌, ◌/◌, ◌%◌, ◌^◌, ◌<◌, ◌≤◌, true, cond, List, [], ◌∷◌, length, get_or, drop, sym, refl, ap, ◌∙◌, inl, inr, pow-suc, arith, pow_mono}
 use lib.Count.{ones, ones_step, ones-le}
 use Rattle.std.specs.List.{flat_map, AllByRecursion as All}
 use Rattle.std.proofs.lemmas.List.{length-append, length-map, length-take-le, at_drop_more, at_drop_all}
@@ -10,7 +10,7 @@ use Rattle.circuit.specs.declared.record.Gate.{Gate}
 use Rattle.circuit.specs.declared.record.Record.{Record}
 use Rattle.circuit.specs.Parts.{gates_of, latches_of}
 use Rattle.circuit.specs.Sound.{sound}
-use Rattle.circuit.specs.Step.{low_bit, state_count}
+use Rattle.circuit.specs.Step.{low_bit}
 use Rattle.circuit.proofs.Soundness.{soundness}
 use Rattle.game.specs.declared.row.Row.{Row}
 use Rattle.encoding.specs.Literals.{cared, signed, next_literals, positive, entry_variable}

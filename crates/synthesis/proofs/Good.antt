@@ -1,10 +1,9 @@
 -- Rows and exceptions that a solver's narrow no gives are good, and where the candidate solver says no nothing is due.
-use Rattle.std.proofs.Common.{◌≡◌, ℕ, zero, suc, ◌+◌, ◌*◌, ◌^◌, ◌<◌, ◌≤◌, Bool, true, false, cond, not, ◌&&◌, eqb, ◌≢◌, ◌⊎◌, List, [], ◌∷◌, ◌++◌, map, length, get_or, take, drop, set, Decides, sym, refl, ap, ◌∙◌, subst, inl, inr, arith, pow_mono}
+use Rattle.std.proofs.Common.{◌≡◌, ℕ, ◌+◌, ◌<◌, ◌≤◌, true, false, cond, ◌≢◌, List, [], ◌∷◌, ◌++◌, length, get_or, set, sym, refl, ap, ◌∙◌, subst, inl, inr, arith}
 use lib.Bits.{bit_and}
 use Rattle.std.specs.List.{AllByRecursion as All}
 use Rattle.std.proofs.lemmas.List.{length-append, length-map, length-take-le, length_push, get_or-set_other}
-use Rattle.std.proofs.lemmas.Bool.{both_ways, cases_Bool, and_from, and_parts, eq-eqb, eqb-true}
-use Rattle.literal.specs.declared.Literal.{Literal}
+use Rattle.std.proofs.lemmas.Bool.{both_ways, cases_Bool, and_from, and_parts, eq-eqb}
 use Rattle.literal.specs.Truth.{Values, truth}
 use Rattle.circuit.specs.declared.record.Gate.{Gate}
 use Rattle.circuit.specs.declared.record.Record.{Record}
@@ -16,16 +15,16 @@ use Rattle.circuit.specs.Settled.{of_side, same_side}
 use Rattle.circuit.proofs.Soundness.{soundness}
 use Rattle.circuit.specs.Sound.{sound, event_count, answer_count}
 use Rattle.circuit.specs.Step.{all_false, bit, state_count, event_numbers, answer_numbers}
-use Rattle.sat.specs.Clauses.{Clause, all_true, satisfies, Satisfiable, Unsatisfiable, marked}
+use Rattle.sat.specs.Clauses.{all_true, satisfies, Unsatisfiable, marked}
 use Rattle.sat.specs.Answers.{Narrowed}
 use Rattle.sat.proofs.Laws.{all_append, all_parts, marked_whole, marked_every}
 use Rattle.game.specs.Game.{Arena}
 use Rattle.game.specs.Models.{arena_of}
-use Rattle.game.specs.Rows.{row_covers, covered, exception_covers, excepted, good, agrees, less_bit, wider, wider_state, wider_event, Justified, Tight, GoodRow, GoodRows, GoodException, GoodExceptions, Serves, AllGood}
+use Rattle.game.specs.Rows.{row_covers, covered, excepted, good, agrees, less_bit, wider, wider_state, wider_event, Justified, Tight, GoodRow, GoodException, GoodExceptions, Serves, AllGood}
 use Rattle.game.specs.declared.exception.Exception.{Exception}
 use Rattle.game.specs.declared.row.Row.{Row}
 use Rattle.game.proofs.Dues.{served}
-use Rattle.encoding.specs.Literals.{due_literal, with_signs, number_in, latch_literals, side_literals, state_literals, event_literals, answer_literals, state_in, event_in, answer_in, care_of}
+use Rattle.encoding.specs.Literals.{due_literal, latch_literals, side_literals, state_literals, event_literals, answer_literals, state_in, event_in, answer_in}
 use Rattle.encoding.specs.Clauses.{answer_clauses, candidate_clauses}
 use Rattle.encoding.specs.Laws.{RowFits, ExceptionFits, SaidInRange, SaidByLiterals, MarksSay, AnswerSound, AnswerComplete, Candidate, CandidateSound, CandidateComplete}
 use Rattle.synthesis.specs.Narrow.{section, row_asked, row_from, exception_asked, first_asked, exception_from}

@@ -1,14 +1,12 @@
 -- What the two solvers hold as rows and exceptions are added, and that there is room for it.
-use Rattle.std.proofs.Common.{◌≡◌, ℕ, zero, suc, ◌+◌, ◌-◌, ◌*◌, ◌<◌, ◌≤◌, Bool, true, false, List, [], ◌∷◌, ◌++◌, map, length, get_or, take, sym, refl, ap, ◌∙◌, subst, mul-one, mul-suc, mul-add, arith}
+use Rattle.std.proofs.Common.{◌≡◌, ℕ, suc, ◌+◌, ◌*◌, ◌<◌, ◌≤◌, List, [], ◌∷◌, ◌++◌, map, length, get_or, take, sym, ap, ◌∙◌, mul-one, mul-add, arith}
 use Rattle.std.specs.List.{AllByRecursion as All}
 use Rattle.std.proofs.lemmas.Nat.{mul-le}
 use Rattle.std.proofs.lemmas.List.{append_assoc, append-nil, take_at, map_push, length-append}
 use Rattle.circuit.specs.declared.record.Gate.{Gate}
 use Rattle.circuit.specs.declared.record.Record.{Record}
-use Rattle.circuit.specs.Sound.{sound}
-use Rattle.sat.specs.Clauses.{Clause, cells_of}
 use Rattle.game.specs.Models.{arena_of}
-use Rattle.game.specs.Rows.{GoodRow, GoodRows, GoodException, GoodExceptions}
+use Rattle.game.specs.Rows.{GoodRows, GoodExceptions}
 use Rattle.game.specs.declared.exception.Exception.{Exception}
 use Rattle.game.specs.declared.row.Row.{Row}
 use Rattle.encoding.specs.Clauses.{answer_base, answer_row, answer_clauses, candidate_base, candidate_row, candidate_rows, exception_clause, candidate_clauses}

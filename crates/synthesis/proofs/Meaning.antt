@@ -1,13 +1,13 @@
 -- What marks of assumptions say of rows and exceptions, from what the clauses mean.
-use Rattle.std.proofs.Common.{◌≡◌, ℕ, zero, suc, ◌+◌, ◌-◌, ◌*◌, ◌/◌, ◌^◌, ◌<◌, ◌≤◌, Bool, true, false, cond, not, ◌&&◌, eqb, ◌≢◌, ◌⊎◌, List, [], ◌∷◌, ◌++◌, map, length, get_or, take, drop, set, sym, refl, ap, ◌∙◌, subst, inl, inr, arith, pow_mono}
+use Rattle.std.proofs.Common.{◌≡◌, ℕ, zero, suc, ◌+◌, ◌/◌, ◌^◌, ◌<◌, ◌≤◌, Bool, true, false, cond, not, ◌&&◌, eqb, List, [], ◌∷◌, ◌++◌, length, get_or, take, drop, set, sym, refl, ap, ◌∙◌, inl, inr, arith, pow_mono}
 use lib.Bits.{bit_and}
-use Rattle.std.proofs.lemmas.List.{length-take, length-drop, length-map, length-set, get_or-take, get_or-drop, get_or_past, get_or-set_same, get_or-set_other, get_or_append_left, get_or-append-add, length-append, drop-set-add, drop-set-lt, take-set-le}
-use Rattle.std.proofs.lemmas.Bool.{both_ways, cases_Bool, cases_lt, cases_eq, and_from, eqb-true, eq-eqb, ne_eqb}
+use Rattle.std.proofs.lemmas.List.{length-take, length-set, get_or-take, get_or-drop, get_or_past, get_or-set_same, get_or-set_other, drop-set-add, drop-set-lt, take-set-le}
+use Rattle.std.proofs.lemmas.Bool.{cases_lt, cases_eq, eqb-true, eq-eqb, ne_eqb}
 use Rattle.literal.specs.declared.Literal.{Literal}
-use Rattle.literal.specs.Truth.{Values, truth}
+use Rattle.literal.specs.Truth.{Values}
 use Rattle.circuit.specs.Step.{bit}
-use Rattle.sat.specs.Clauses.{Clause, all_true, marked}
-use Rattle.sat.proofs.Laws.{all_append, all_parts, marked_at, marked_from}
+use Rattle.sat.specs.Clauses.{all_true, marked}
+use Rattle.sat.proofs.Laws.{all_append, all_parts}
 use Rattle.game.specs.Rows.{agrees, less_bit}
 use Rattle.game.proofs.Bits.{bit_and_lem, same_bits, less_bits}
 use Rattle.encoding.specs.Laws.{MarksSay}

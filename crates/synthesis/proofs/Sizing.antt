@@ -1,16 +1,15 @@
 -- Sizes stay far below what a number holds.
-use Rattle.std.proofs.Common.{◌≡◌, ℕ, ◌+◌, ◌*◌, ◌<◌, ◌≤◌, max, Bool, true, false, cond, ◌&&◌, ltb, leb, Some, None, Option, sym, refl, ap, ◌∙◌, arith}
+use Rattle.std.proofs.Common.{◌≡◌, ℕ, ◌*◌, ◌≤◌, true, false, Some, None, sym, refl}
 use Rattle.std.proofs.lemmas.Nat.{mul-le}
-use Rattle.std.proofs.lemmas.Bool.{le-leb, lt-ltb, and_from, and_left, and_right, and_parts, leb-true, ltb-true}
+use Rattle.std.proofs.lemmas.Bool.{le-leb, and_from}
 use Rattle.circuit.specs.declared.model.Model.{Model}
 use Rattle.circuit.specs.declared.record.Record.{Record}
 use Rattle.circuit.specs.Parts.{inputs_of}
 use Rattle.circuit.specs.Sound.{event_count, answer_count}
 use Rattle.circuit.proofs.Soundness.{soundness}
-use Rattle.synthesis.specs.declared.fault.RunFault.{RunFault}
 use Rattle.synthesis.specs.declared.fault.RunFault.TheVariants.{TooManyPlaces, CandidateSmall, AnswerSmall, WorkShort}
 use Rattle.synthesis.specs.declared.sizes.Sizes.{Sizes}
-use Rattle.synthesis.specs.Sizes.{places_fit, candidate_fits, answer_fits, work_fits, size_fault, variables_of_candidate, cells_of_candidate, variables_of_answer, cells_of_answer}
+use Rattle.synthesis.specs.Sizes.{places_fit, candidate_fits, answer_fits, work_fits, size_fault}
 
 pub record Bounds (r : Record) : Type 0 where
   pub maximum : r.maximum ≤ 4096

@@ -1,5 +1,5 @@
 -- What a run starts from, and that sizes which are enough leave no solver short.
-use Rattle.std.proofs.Common.{◌≡◌, ℕ, ◌+◌, ◌-◌, ◌*◌, ◌<◌, ◌≤◌, max, Bool, true, false, cond, List, [], ◌∷◌, ◌++◌, map, length, replicate, Some, None, Err, Option, Result, sym, refl, ap, ◌∙◌, subst, arith}
+use Rattle.std.proofs.Common.{◌≡◌, ℕ, ◌-◌, ◌<◌, Bool, true, false, cond, List, [], ◌++◌, length, replicate, Some, None, Err, Option, Result, sym, refl, ap, ◌∙◌, subst, arith}
 use Rattle.std.proofs.lemmas.List.{length-replicate, append-nil}
 use Rattle.std.proofs.lemmas.Bool.{leb-true, ltb-true, and_parts}
 use Rattle.circuit.specs.declared.record.Gate.{Gate}
@@ -17,7 +17,7 @@ use Rattle.game.specs.Game.{Arena}
 use Rattle.synthesis.specs.declared.fault.RunFault.{RunFault}
 use Rattle.synthesis.specs.declared.sizes.Sizes.{Sizes}
 use Rattle.synthesis.specs.declared.verdict.Verdict.{Verdict}
-use Rattle.synthesis.specs.Runs.{Laid, Roomy, Turning, Ran, RunGives, sizes_of}
+use Rattle.synthesis.specs.Runs.{Roomy, Turning, Ran, RunGives, sizes_of}
 use Rattle.synthesis.specs.Sizes.{places_fit, candidate_fits, answer_fits, work_fits, size_fault}
 use Rattle.synthesis.proofs.Ends.{some_none}
 

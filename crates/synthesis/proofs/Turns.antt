@@ -1,5 +1,5 @@
 -- What a turn learns from the two solvers' answers.
-use Rattle.std.proofs.Common.{◌≡◌, ℕ, ◌+◌, ◌*◌, ◌<◌, ◌≤◌, Bool, true, false, List, [], ◌∷◌, ◌++◌, length, Some, None, Ok, Option, sym, refl, ap, ◌∙◌, subst, arith}
+use Rattle.std.proofs.Common.{◌≡◌, ℕ, ◌<◌, true, List, [], ◌∷◌, length, Some, None, Ok, Option, sym, refl, ap, ◌∙◌, subst, arith}
 use lib.Bits.{bit_and}
 use Rattle.std.proofs.lemmas.Bool.{eq-eqb}
 use Rattle.circuit.specs.declared.record.Gate.{Gate}
@@ -11,24 +11,24 @@ use Rattle.sat.specs.Answers.{Narrowed}
 use Rattle.sat.specs.Clauses.{Clause, satisfies, all_true, Unsatisfiable}
 use Rattle.sat.proofs.Laws.{all_parts}
 use Rattle.roll.specs.declared.roll.Roll.{Roll}
-use Rattle.roll.specs.Rolls.{items_of, table_of}
+use Rattle.roll.specs.Rolls.{items_of}
 use Rattle.game.specs.Game.{Arena}
 use Rattle.game.specs.Models.{arena_of}
-use Rattle.game.specs.Rows.{covered, excepted, good, row_covers, GoodRow, GoodException, RowDue, ExceptionDue}
+use Rattle.game.specs.Rows.{good, GoodRow, GoodException, RowDue, ExceptionDue}
 use Rattle.game.specs.Runs as runs
 use Rattle.game.specs.declared.exception.Exception.{Exception}
 use Rattle.game.specs.declared.exception.Pair.{Pair}
 use Rattle.game.specs.declared.row.Row.{Row}
 use Rattle.game.proofs.Models.{playable}
 use Rattle.game.proofs.Runs.{kept_run}
-use Rattle.encoding.specs.Clauses.{answer_clauses, candidate_clauses}
+use Rattle.encoding.specs.Clauses.{candidate_clauses}
 use Rattle.encoding.specs.Laws.{Candidate}
 use Rattle.encoding.specs.Literals.{due_literal, state_literals, event_literals, state_in, event_in, answer_in}
 use Rattle.synthesis.specs.declared.ask.Reply.{Reply}
 use Rattle.synthesis.specs.declared.ask.Reply.TheVariants.{Answered, Unanswered}
 use Rattle.synthesis.specs.Asked.{FoundPair, Found, FoundAnswer, NoAnswer, Replied, NoCandidate}
-use Rattle.synthesis.specs.Narrow.{row_asked, row_from, exception_asked, first_asked, exception_from}
-use Rattle.synthesis.specs.Runs.{Laid, Roomy, Turning}
+use Rattle.synthesis.specs.Narrow.{row_asked, row_from, exception_asked, first_asked}
+use Rattle.synthesis.specs.Runs.{Roomy, Turning}
 use Rattle.synthesis.proofs.Adding.{used_few}
 use Rattle.synthesis.proofs.Good.{row_good, nothing_due, candidate_said, good_refuted, exception_good}
 use Rattle.synthesis.proofs.Growing.{rows_fit, exceptions_fit}

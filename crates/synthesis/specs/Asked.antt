@@ -1,6 +1,5 @@
 -- What the solvers' answers give to a turn. No refusal comes out: the sizes rule them all out.
 use Rattle.std.specs.Prelude.{◌≡◌, ℕ, true, List, [], ◌∷◌, Some, None, Ok, Err, Option, Result}
-use Rattle.literal.specs.declared.Literal.{Literal}
 use Rattle.literal.specs.Truth.{Values}
 use Rattle.circuit.specs.declared.record.Record.{Record}
 use Rattle.circuit.specs.Parts.{inputs_of}

@@ -1,6 +1,5 @@
 -- The number of each refusal of a run, and the row count that it returns; what verdicts are.
 use Rattle.std.specs.Prelude.{ℕ, List, codes}
-use Rattle.sat.specs.declared.fault.SolverFault.{SolverFault}
 use Rattle.sat.specs.Faults.{fault_number}
 use Rattle.synthesis.specs.declared.fault.RunFault.{RunFault}
 use Rattle.synthesis.specs.declared.fault.RunFault.TheVariants.{TooManyPlaces, CandidateSmall, AnswerSmall, RowsFull, ExceptionsFull, WorkShort, Solver}

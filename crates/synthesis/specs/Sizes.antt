@@ -1,5 +1,5 @@
 -- The sizes that a run needs, and what it refuses where they are too small.
-use Rattle.std.specs.Prelude.{ℕ, ◌+◌, ◌*◌, ◌<◌, ◌≤◌, max, Bool, cond, ◌&&◌, Some, None, Option, nat_le, nat_lt}
+use Rattle.std.specs.Prelude.{ℕ, ◌+◌, ◌*◌, max, Bool, cond, ◌&&◌, Some, None, Option, nat_le, nat_lt}
 use Rattle.circuit.specs.declared.record.Record.{Record}
 use Rattle.circuit.specs.Parts.{inputs_of}
 use Rattle.circuit.specs.Sound.{event_count}

@@ -1,4 +1,4 @@
-use Rattle.std.proofs.Common.{◌≡◌, vec_items, sym, ◌∙◌, arith}
+use Rattle.std.proofs.Common.{vec_items, ◌∙◌}
 use Rattle.dimacs.proofs.Settled.{lent, settled}
 use Rattle.dimacs.proofs.solve.solve.Goals as goal
 

@@ -1,4 +1,4 @@
-use Rattle.std.proofs.Common.{◌≡◌, List, length, sym, refl, ◌∙◌, subst}
+use Rattle.std.proofs.Common.{List, length, sym, refl, ◌∙◌, subst}
 use Rattle.std.proofs.lemmas.Result.{err_from_is_err_and}
 use Rattle.game.specs.Models.{model_arena}
 use Rattle.game.specs.Runs.{Exact}

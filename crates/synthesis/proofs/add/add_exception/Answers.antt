@@ -1,8 +1,7 @@
-use Rattle.std.proofs.Common.{◌≡◌, ℕ, ◌+◌, ◌<◌, ◌≤◌, false, length, sym, refl, ap, ◌∙◌, arith}
+use Rattle.std.proofs.Common.{false, refl, ap, arith}
 use Rattle.std.proofs.lemmas.Bool.{both_ways}
 use Rattle.sat.specs.Clauses.{cells_of}
-use Rattle.roll.specs.Rolls.{items_of, table_of}
-use Rattle.encoding.specs.Laws.{exception_cells, candidate_variables}
+use Rattle.roll.specs.Rolls.{items_of}
 use Rattle.synthesis.proofs.Adding.{used_few, laid_same, exception_cells_lem, exceptions_full, exception_turning}
 use Rattle.synthesis.proofs.add.add_exception.Goals as goal
 

@@ -1,11 +1,10 @@
-use Rattle.std.proofs.Common.{◌≡◌, ℕ, ◌+◌, ◌<◌, ◌≤◌, List, ◌++◌, length, take, sym, refl, ap, ◌∙◌, subst, arith}
+use Rattle.std.proofs.Common.{◌≡◌, ◌<◌, List, ◌++◌, length, take, sym, refl, ap, ◌∙◌, subst, arith}
 use Rattle.std.specs.List.{AllByRecursion as All}
-use Rattle.std.proofs.lemmas.List.{length-append}
 use Rattle.sat.specs.Clauses.{cells_of}
 use Rattle.game.specs.declared.row.Row.{Row}
 use Rattle.roll.specs.Rolls.{items_of, table_of}
-use Rattle.encoding.specs.Clauses.{candidate_row, candidate_clauses}
-use Rattle.encoding.specs.Laws.{RowFits, candidate_row_cells, answer_row_cells}
+use Rattle.encoding.specs.Clauses.{candidate_row}
+use Rattle.encoding.specs.Laws.{RowFits}
 use Rattle.synthesis.specs.Held.{fixed_clauses}
 use Rattle.synthesis.proofs.Adding.{used_few, laid_same, row_cells, answer_cells_lem, rows_full, row_laid, row_turning, row_lost}
 use Rattle.synthesis.proofs.Growing.{rows_fit, candidate_keep, fixed_within}

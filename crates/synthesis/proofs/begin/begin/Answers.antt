@@ -1,4 +1,4 @@
-use Rattle.std.proofs.Common.{◌≡◌, sym, refl, ◌∙◌, arith}
+use Rattle.std.proofs.Common.{◌∙◌, arith}
 use Rattle.synthesis.proofs.Ends.{ok_none, whole_from}
 use Rattle.synthesis.proofs.Starting.{start_turning}
 use Rattle.synthesis.proofs.begin.begin.Goals as goal

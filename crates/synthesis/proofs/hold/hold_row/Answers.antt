@@ -1,4 +1,4 @@
-use Rattle.std.proofs.Common.{false, sym, refl, ap, ◌∙◌, arith}
+use Rattle.std.proofs.Common.{false, refl, ◌∙◌}
 use Rattle.std.proofs.lemmas.Bool.{both_ways}
 use Rattle.sat.proofs.Checks.{keep_passes}
 use Rattle.synthesis.proofs.Ends.{never_refused, held_ok, ok_none, whole_from}

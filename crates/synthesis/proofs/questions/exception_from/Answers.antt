@@ -1,4 +1,4 @@
-use Rattle.std.proofs.Common.{◌≡◌, sym, refl, ap, ◌∙◌, arith}
+use Rattle.std.proofs.Common.{arith}
 use Rattle.synthesis.proofs.Sizing.{bounds}
 use Rattle.synthesis.proofs.Asking.{exception_of}
 use Rattle.synthesis.proofs.questions.exception_from.Goals as goal

@@ -1,4 +1,4 @@
-use Rattle.std.proofs.Common.{◌≡◌, length, sym, refl, ap, ◌∙◌, arith}
+use Rattle.std.proofs.Common.{length, arith}
 use Rattle.synthesis.proofs.Asking.{row_put, row_passes, narrow_yes, narrow_no, found_answer, no_answer}
 use Rattle.synthesis.proofs.Ends.{never_refused}
 use Rattle.synthesis.proofs.questions.find_answer.Goals as goal

@@ -1,4 +1,4 @@
-use Rattle.std.proofs.Common.{◌≡◌, ◌+◌, length, sym, refl, ap, ◌∙◌, arith}
+use Rattle.std.proofs.Common.{◌+◌, length, sym, ap, ◌∙◌, arith}
 use Rattle.sat.specs.Clauses.{all_true, byte_values}
 use Rattle.synthesis.proofs.Sizing.{bounds}
 use Rattle.synthesis.proofs.Asking.{exception_put, exception_passes, narrow_yes, narrow_no, no_candidate}

@@ -1,4 +1,4 @@
-use Rattle.std.proofs.Common.{◌≡◌, length, sym, refl, ap, ◌∙◌, arith}
+use Rattle.std.proofs.Common.{length}
 use Rattle.sat.proofs.Decisions.{decided_yes, decided_no}
 use Rattle.synthesis.proofs.Asking.{due_passes, found_pair, no_pair}
 use Rattle.synthesis.proofs.Ends.{never_refused}

@@ -1,8 +1,6 @@
-use Rattle.std.proofs.Common.{◌≡◌, sym, refl, ap, ◌∙◌, arith}
-use lib.Bits.{bit_and}
-use Rattle.game.specs.declared.row.Row.{Row}
+use Rattle.std.proofs.Common.{arith}
 use Rattle.synthesis.proofs.Sizing.{bounds}
-use Rattle.synthesis.proofs.Asking.{mask_of_part, row_of}
+use Rattle.synthesis.proofs.Asking.{row_of}
 use Rattle.synthesis.proofs.questions.row_from.Goals as goal
 
 pub overflow_add-events : goal.overflow_add-events

@@ -1,4 +1,4 @@
-use Rattle.std.proofs.Common.{◌≡◌, length, sym, refl, ◌∙◌}
+use Rattle.std.proofs.Common.{length, sym, refl, ◌∙◌}
 use Rattle.roll.specs.Rolls.{table_of}
 use Rattle.synthesis.specs.Runs.{sizes_of}
 use Rattle.std.proofs.lemmas.Result.{err_from_is_err_and}

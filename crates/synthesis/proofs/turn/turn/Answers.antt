@@ -1,5 +1,5 @@
-use Rattle.std.proofs.Common.{◌≡◌, ℕ, ◌+◌, ◌<◌, ◌≤◌, List, length, sym, refl, ◌∙◌, subst, arith}
-use Rattle.roll.specs.Rolls.{items_of, table_of}
+use Rattle.std.proofs.Common.{List, length, sym, refl, ◌∙◌, subst, arith}
+use Rattle.roll.specs.Rolls.{table_of}
 use Rattle.sat.specs.Clauses.{Clause, Unsatisfiable}
 use Rattle.synthesis.specs.Narrow.{exception_asked}
 use Rattle.synthesis.proofs.Adding.{used_few}

@@ -1,4 +1,4 @@
-use Rattle.std.proofs.Common.{◌+◌, ◌*◌, arith}
+use Rattle.std.proofs.Common.{◌+◌, arith}
 use Rattle.synthesis.proofs.Sizing.{bounds, product}
 use Rattle.synthesis.proofs.sizes.Sizes.answer_fits.Goals as goal
 

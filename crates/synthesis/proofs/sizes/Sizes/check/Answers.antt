@@ -1,4 +1,4 @@
-use Rattle.std.proofs.Common.{ltb, leb, sym, ap, ◌∙◌, arith}
+use Rattle.std.proofs.Common.{leb, arith}
 use Rattle.std.proofs.lemmas.Bool.{and_left, and_right, lt-ltb, le-ltb, lt-leb}
 use Rattle.synthesis.proofs.Sizing.{places_stop, candidate_stop, answer_stop, work_stop, sizes_pass}
 use Rattle.synthesis.proofs.sizes.Sizes.check.Goals as goal
