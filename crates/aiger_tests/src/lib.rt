@@ -103,7 +103,7 @@ mod tests {
         let model = Model::join(&record, &gates);
         let mut exact = [7u8; 17];
         assert_eq!(rt; write(&model, &mut exact)?, 16);
-        assert_eq!(rt; &exact[0..17], b"aag 0 0 0 1 0\n1\n\x07");
+        assert_eq!(rt; &exact[0..17], b"aag 0 0 0 1 0\n1\n\x07".as_slice());
         let mut short = [7u8; 15];
         match write(&model, &mut short) {
             Ok(_) => return Err(Fail::new("a buffer that is too short was taken")),

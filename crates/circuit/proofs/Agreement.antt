@@ -1,6 +1,6 @@
 -- The values that a step works out agree with the inputs, the latches and the gates, and no other values do.
 use Rattle.std.proofs.Common.{◌≡◌, ℕ, ◌/◌, ◌<◌, Bool, true, false, cond, List, [], ◌∷◌, map, length, get_or, sym, refl, ap, ◌∙◌, arith}
-use Rattle.std.specs.List.{AllByRecursion as All}
+use Rattle.std.specs.List.{AllByRecursion}
 use Rattle.std.proofs.ByRecursion.{All-get_or, all_kept_by}
 use Rattle.literal.specs.declared.Literal.{Literal}
 use Rattle.literal.specs.Truth.{Values, variable_of}
@@ -60,7 +60,7 @@ latches_agree m vs (l ∷ ls) s v h =
 
 -- each gate's equation holds
 gates_agree : (m : ℕ) (vs : List ℕ) (gs : List Gate) (v : Values) → gates_ordered m vs gs ≡ true
-    → All (λ g. with_gates gs v (variable_of g.output) ≡ conjunction (with_gates gs v) g) gs
+    → AllByRecursion (λ g. with_gates gs v (variable_of g.output) ≡ conjunction (with_gates gs v) g) gs
 gates_agree m vs [] v h = tt
 gates_agree m vs (g ∷ gs) v h =
     let x : ℕ = variable_of g.output in
@@ -88,11 +88,11 @@ input_is_source : (r : Record) (y : ℕ) → member y (input_variables r) ≡ tr
 input_is_source r y h =
     ap (member y) (defined_append (0 ∷ []) (input_literals r) (latch_literals r)) ∙ defined_keeps y (input_variables r) (latch_literals r) h
 
-inputs_defined : (r : Record) → All (λ i. member (variable_of i.literal) (input_variables r) ≡ true) (inputs_of r)
+inputs_defined : (r : Record) → AllByRecursion (λ i. member (variable_of i.literal) (input_variables r) ≡ true) (inputs_of r)
 inputs_defined r =
     all_from_map (λ l. member (variable_of l) (input_variables r) ≡ true) (λ i. i.literal) (inputs_of r) (defined_has (0 ∷ []) (input_literals r))
 
-latches_defined : (r : Record) → All (λ l. member (variable_of l.literal) (defined (input_variables r) (latch_literals r)) ≡ true) (latches_of r)
+latches_defined : (r : Record) → AllByRecursion (λ l. member (variable_of l.literal) (defined (input_variables r) (latch_literals r)) ≡ true) (latches_of r)
 latches_defined r =
     all_from_map (λ l. member (variable_of l) (defined (input_variables r) (latch_literals r)) ≡ true) (λ l. l.literal) (latches_of r)
     (defined_has (input_variables r) (latch_literals r))
@@ -134,7 +134,7 @@ module _ (r : Record) (gs : List Gate) (s e a : ℕ) (h : sound r gs ≡ true) w
       (ap (member y) (defined_append (0 ∷ []) (input_literals r) (latch_literals r)) ∙ All-get_or P (latches_of r) j d l (latches_defined r))
       ∙ latches_agree r.maximum (input_variables r) (latches_of r) s (after_inputs r e a) (sources_fresh r (soundness r gs h).fresh).1 j d l
 
-  gate_agrees : All (λ g. values_at r gs s e a (variable_of g.output) ≡ conjunction (values_at r gs s e a) g) (gates_of r gs)
+  gate_agrees : AllByRecursion (λ g. values_at r gs s e a (variable_of g.output) ≡ conjunction (values_at r gs s e a) g) (gates_of r gs)
   unfolding values_at
   gate_agrees = gates_agree r.maximum (source_variables r) (gates_of r gs) (after_latches r s e a) (soundness r gs h).ordered
 

@@ -1,6 +1,6 @@
 -- What it says of a literal that it is fresh, and of literals and gates that they are defined in turn.
 use Rattle.std.proofs.Common.{◌≡◌, ℕ, ◌+◌, ◌*◌, ◌%◌, ◌≤◌, Bool, true, false, not, ◌&&◌, eqb, leb, List, [], ◌∷◌, ◌++◌, map, sym, refl, ap, ◌∙◌, arith}
-use Rattle.std.specs.List.{AllByRecursion as All}
+use Rattle.std.specs.List.{AllByRecursion}
 use Rattle.std.proofs.lemmas.Bool.{and_parts, leb-true, not-true}
 use Rattle.literal.specs.declared.Literal.{Literal}
 use Rattle.literal.specs.Truth.{variable_of}
@@ -42,13 +42,13 @@ ordered_parts m vs g gs h =
     }
 
 -- literals that are fresh in turn have variables up to the largest
-pub fresh_inside : (m : ℕ) (vs : List ℕ) (ls : List Literal) → all_fresh m vs ls ≡ true → All (λ l. variable_of l ≤ m) ls
+pub fresh_inside : (m : ℕ) (vs : List ℕ) (ls : List Literal) → all_fresh m vs ls ≡ true → AllByRecursion (λ l. variable_of l ≤ m) ls
 fresh_inside m vs [] h = tt
 fresh_inside m vs (l ∷ ls) h =
     let p = and_parts (fresh m vs l) _ h in
     ((fresh_parts m vs l p.0).inside, fresh_inside m (variable_of l ∷ vs) ls p.1)
 
-pub outputs_inside : (m : ℕ) (vs : List ℕ) (gs : List Gate) → gates_ordered m vs gs ≡ true → All (λ g. variable_of g.output ≤ m) gs
+pub outputs_inside : (m : ℕ) (vs : List ℕ) (gs : List Gate) → gates_ordered m vs gs ≡ true → AllByRecursion (λ g. variable_of g.output ≤ m) gs
 outputs_inside m vs [] h = tt
 outputs_inside m vs (g ∷ gs) h =
     let p = ordered_parts m vs g gs h in
@@ -70,7 +70,7 @@ pub defined_append : (vs : List ℕ) (xs ys : List Literal) → defined vs (xs +
 defined_append vs [] ys = refl
 defined_append vs (x ∷ xs) ys = defined_append (variable_of x ∷ vs) xs ys
 
-pub all_from_map : {X Y : Type 0} (P : Y → Type 0) (f : X → Y) (xs : List X) → All P (map f xs) → All (λ x. P (f x)) xs
+pub all_from_map : {X Y : Type 0} (P : Y → Type 0) (f : X → Y) (xs : List X) → AllByRecursion P (map f xs) → AllByRecursion (λ x. P (f x)) xs
 all_from_map P f [] h = tt
 all_from_map P f (x ∷ xs) h = (h.0, all_from_map P f xs h.1)
 

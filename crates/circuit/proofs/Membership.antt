@@ -1,6 +1,6 @@
 -- Which variables are defined, and values that are the same at them.
 use Rattle.std.proofs.Common.{◌≡◌, ℕ, Bool, true, false, cond, not, ◌&&◌, eqb, List, [], ◌∷◌, sym, refl, ap, ◌∙◌, subst, ⊎_elim}
-use Rattle.std.specs.List.{AllByRecursion as All}
+use Rattle.std.specs.List.{AllByRecursion}
 use Rattle.std.proofs.lemmas.Bool.{both_ways, eq-eqb, ne_eqb, eqb-true, or_left, or_right, or_cases, cond-true, cond-false}
 use Rattle.literal.specs.declared.Literal.{Literal}
 use Rattle.literal.specs.Truth.{Values, variable_of, negated, truth}
@@ -19,7 +19,7 @@ pub defined_keeps : (x : ℕ) (vs : List ℕ) (ls : List Literal) → member x v
 defined_keeps x vs [] h = h
 defined_keeps x vs (l ∷ ls) h = defined_keeps x (variable_of l ∷ vs) ls (member_later (variable_of l) x vs h)
 
-pub defined_has : (vs : List ℕ) (ls : List Literal) → All (λ l. member (variable_of l) (defined vs ls) ≡ true) ls
+pub defined_has : (vs : List ℕ) (ls : List Literal) → AllByRecursion (λ l. member (variable_of l) (defined vs ls) ≡ true) ls
 defined_has vs [] = tt
 defined_has vs (l ∷ ls) =
     (defined_keeps (variable_of l) (variable_of l ∷ vs) ls (member_here (variable_of l) vs), defined_has (variable_of l ∷ vs) ls)
@@ -53,6 +53,6 @@ same_more v w y vs h e x m =
     (or_cases (eqb x y) (member x vs) m)
 
 pub same_defined : (v w : Values) (vs : List ℕ) (ls : List Literal) → Same v w vs
-    → All (λ l. v (variable_of l) ≡ w (variable_of l)) ls → Same v w (defined vs ls)
+    → AllByRecursion (λ l. v (variable_of l) ≡ w (variable_of l)) ls → Same v w (defined vs ls)
 same_defined v w vs [] h a = h
 same_defined v w vs (l ∷ ls) h a = same_defined v w (variable_of l ∷ vs) ls (same_more v w (variable_of l) vs h a.0) a.1

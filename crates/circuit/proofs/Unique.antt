@@ -1,7 +1,7 @@
 -- Values that agree with a step's numbers and with every gate are the same at every variable that is defined, so any of them tell the
 -- step's answer.
 use Rattle.std.proofs.Common.{◌≡◌, ℕ, suc, ◌+◌, ◌*◌, ◌<◌, true, false, cond, List, [], ◌∷◌, map, length, get_or, sym, refl, ap, ◌∙◌, suc-le-suc, zero-le}
-use Rattle.std.specs.List.{AllByRecursion as All}
+use Rattle.std.specs.List.{AllByRecursion}
 use Rattle.std.proofs.ByRecursion.{All-from_get_or, All-append, All-map}
 use Rattle.std.proofs.lemmas.Bool.{and_parts, both_ways}
 use Rattle.literal.specs.declared.Literal.{Literal}
@@ -38,13 +38,13 @@ module _ (v w : Values) where
   )
 
   -- what holds of both sides by place holds of every input
-  inputs_same : (is : List Input) → ((t : Side) → SameAt (of_side t is)) → All (λ i. v (variable_of i.literal) ≡ w (variable_of i.literal)) is
+  inputs_same : (is : List Input) → ((t : Side) → SameAt (of_side t is)) → AllByRecursion (λ i. v (variable_of i.literal) ≡ w (variable_of i.literal)) is
   inputs_same [] h = tt
   inputs_same (i ∷ is) h = let p = input_apart i is i.side h in (p.0, inputs_same is p.1)
 
   -- an operand is defined before its gate
   gates_same : (m : ℕ) (vs : List ℕ) (gs : List Gate) → gates_ordered m vs gs ≡ true → Same v w vs
-      → All (λ g. v (variable_of g.output) ≡ conjunction v g) gs → All (λ g. w (variable_of g.output) ≡ conjunction w g) gs
+      → AllByRecursion (λ g. v (variable_of g.output) ≡ conjunction v g) gs → AllByRecursion (λ g. w (variable_of g.output) ≡ conjunction w g) gs
       → Same v w (defined vs (map (λ g. g.output) gs))
   gates_same m vs [] h same p q = same
   gates_same m vs (g ∷ gs) h same p q =

@@ -5,12 +5,12 @@ mod answer;
 mod solve;
 
 use answer::{Reason, values_text};
-use anyhow::anyhow;
 use sat::Answer;
 use solve::solve;
 use std::io::Read;
+use std::process::ExitCode;
 
-fn run(rt: &HostRuntime) -> anyhow::Result<()> {
+fn run(rt: &HostRuntime) -> anyhow::Result<ExitCode> {
     let mut text = Vec::new(rt.alloc());
     rt.stdin().read_to_end(&mut text)?;
     match solve(rt.alloc(), &text) {
@@ -22,12 +22,12 @@ fn run(rt: &HostRuntime) -> anyhow::Result<()> {
         Err(fault) => {
             let reason = Reason(fault);
             eprintln!(rt; "dimacs: {reason}")?;
-            return Err(anyhow!("the text is not decided"));
+            return Ok(ExitCode::FAILURE);
         }
     }
-    Ok(())
+    Ok(ExitCode::SUCCESS)
 }
 
-fn main(rt: HostRuntime) -> anyhow::Result<()> {
+fn main(rt: HostRuntime) -> anyhow::Result<ExitCode> {
     run(&rt)
 }

@@ -1,6 +1,6 @@
 -- The answer clauses are satisfied exactly at good answers.
 use Rattle.std.proofs.Common.{◌≡◌, ℕ, ◌^◌, ◌<◌, Bool, true, false, not, ◌&&◌, ◌||◌, List, [], ◌∷◌, map, length, sym, refl, ap, ◌∙◌, subst}
-use Rattle.std.specs.List.{AllByRecursion as All}
+use Rattle.std.specs.List.{AllByRecursion}
 use Rattle.std.proofs.lemmas.List.{length-map}
 use Rattle.std.proofs.lemmas.Bool.{not-true, not_from_false}
 use Rattle.literal.specs.Truth.{Values}
@@ -35,7 +35,7 @@ module _ (r : Record) (gs : List Gate) (h : sound r gs ≡ true) where
       cared_true v (next_literals r) row.care row.value (subst (λ n. row.care < 2 ^ n) (sym k) fit.care) fit.value
       ∙ ap (agrees row.care row.value) (next_is r gs h v s e a enc)
 
-  rows_true : (v : Values) (s e a : ℕ) → Encodes r gs v s e a → (rows : List Row) → All (RowFits r) rows
+  rows_true : (v : Values) (s e a : ℕ) → Encodes r gs v s e a → (rows : List Row) → AllByRecursion (RowFits r) rows
       → satisfies v (map (answer_row r) rows) ≡ not (covered rows (next_at r gs s e a))
   unfolding answer_row
   rows_true v s e a enc [] fit = refl

@@ -1,6 +1,6 @@
 -- The candidate clauses, where something is due, are satisfied exactly at candidates.
 use Rattle.std.proofs.Common.{◌≡◌, ℕ, zero, suc, ◌+◌, ◌-◌, ◌*◌, ◌/◌, ◌%◌, ◌^◌, ◌<◌, Bool, true, false, cond, not, ◌&&◌, ◌||◌, eqb, ◌⊎◌, List, [], ◌∷◌, ◌++◌, map, length, get_or, sym, refl, ap, ◌∙◌, subst, inl, inr, add-one, arith}
-use Rattle.std.specs.List.{AllByRecursion as All}
+use Rattle.std.specs.List.{AllByRecursion}
 use Rattle.std.proofs.lemmas.Bool.{and_parts, and_from, or_cases, or_left, or_right, or_parts, both_ways, not-true, not_from_false, eq-eqb, ne_eqb, cond-true, cond-false}
 use Rattle.literal.specs.declared.Literal.{Literal}
 use Rattle.literal.specs.Truth.{Values, truth}
@@ -72,7 +72,7 @@ module _ (r : Record) (gs : List Gate) (h : sound r gs ≡ true) (v : Values) wh
       ∙ ap (λ b. agrees x.state_care x.state_value (state_in r v) && b)
       (cared_true v (side_literals Event r) x.event_care x.event_value (subst (λ n. x.event_care < 2 ^ n) (sym (events_length r gs h)) fit.event_care) fit.event_value))
 
-  exceptions_true : (xs : List Exception) → All (ExceptionFits r) xs
+  exceptions_true : (xs : List Exception) → AllByRecursion (ExceptionFits r) xs
       → satisfies v (map (exception_clause r) xs) ≡ not (excepted xs (state_in r v) (event_in r v))
   exceptions_true [] fit = refl
   exceptions_true (x ∷ xs) fit =
@@ -145,7 +145,7 @@ module _ (r : Record) (gs : List Gate) (h : sound r gs ≡ true) (v : Values) wh
     holds_then false b e t = absurd (both_ways false refl t)
 
     -- the rows do not cover the state, and what is due by all of them is due by none, or is a step into one
-    rows_say : (i : ℕ) (rows : List Row) → All (RowFits r) rows → satisfies v (candidate_rows r i rows) ≡ true
+    rows_say : (i : ℕ) (rows : List Row) → AllByRecursion (RowFits r) rows → satisfies v (candidate_rows r i rows) ≡ true
         → (covered rows (state_in r v) ≡ false) × (due (i + length rows) ≡ true → (due i ≡ true) ⊎ (covered rows (next_at r gs s e a) ≡ true))
     rows_say i [] fit sat = (refl, λ d. inl (ap due (let z : i ≡ i + 0 = omega arith in z) ∙ d))
     rows_say i (row ∷ rows) fit sat =
@@ -242,7 +242,7 @@ same_implied : (a b : Bool) → a ≡ b → (not a || b) ≡ true
 same_implied a b e = implied a b (λ t. sym e ∙ t)
 
 module _ (r : Record) (gs : List Gate) (h : sound r gs ≡ true) (v : Values) (s e a : ℕ) (enc : Encodes r gs v s e a) where
-  rows_satisfied : (i : ℕ) (rows : List Row) → All (RowFits r) rows → covered rows (state_in r v) ≡ false
+  rows_satisfied : (i : ℕ) (rows : List Row) → AllByRecursion (RowFits r) rows → covered rows (state_in r v) ≡ false
       → ((j : ℕ) → v (due_variable r.maximum (j + 1)) ≡ (v (entry_variable r.maximum j) || v (due_variable r.maximum j)))
       → ((k : ℕ) → k < length rows → v (entry_variable r.maximum (i + k)) ≡ row_covers (get_or rows k blank_row) (next_at r gs s e a))
       → satisfies v (candidate_rows r i rows) ≡ true

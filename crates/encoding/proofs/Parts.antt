@@ -1,6 +1,6 @@
 -- The literals of a sound model: which are a variable's own, and that none passes the largest variable.
 use Rattle.std.proofs.Common.{◌≡◌, ℕ, ◌+◌, ◌*◌, ◌%◌, ◌≤◌, true, false, cond, not, eqb, leb, List, [], ◌∷◌, map, length, refl, ◌∙◌, ⊎_elim, arith}
-use Rattle.std.specs.List.{AllByRecursion as All}
+use Rattle.std.specs.List.{AllByRecursion}
 use Rattle.std.proofs.ByRecursion.{All-map, all_kept_by}
 use Rattle.std.proofs.lemmas.List.{length-take-le, length-map}
 use Rattle.std.proofs.lemmas.Bool.{and_parts, leb-true, eqb-true, eqb-false, not-true, or_cases, both_ways}
@@ -38,7 +38,7 @@ own_fresh m vs l h =
       inside = omega (arith, leb-true l.code (2 * m + 1) h₀.0);
     }
 
-own_all : (m : ℕ) (vs : List ℕ) (ls : List Literal) → all_fresh m vs ls ≡ true → All (Own m) ls
+own_all : (m : ℕ) (vs : List ℕ) (ls : List Literal) → all_fresh m vs ls ≡ true → AllByRecursion (Own m) ls
 own_all m vs [] h = tt
 own_all m vs (l ∷ ls) h =
     let p = and_parts (fresh m vs l) _ h in (own_fresh m vs l p.0, own_all m (variable_of l ∷ vs) ls p.1)
@@ -50,7 +50,7 @@ Inside m vs = (x : ℕ) → member x vs ≡ true → x ≤ m
 inside_more : (m y : ℕ) (vs : List ℕ) → Inside m vs → y ≤ m → Inside m (y ∷ vs)
 inside_more m y vs h le x e = ⊎_elim (λ t. let p = eqb-true x y t in omega arith) (λ t. h x t) (or_cases (eqb x y) (member x vs) e)
 
-inside_defined : (m : ℕ) (vs : List ℕ) (ls : List Literal) → Inside m vs → All (λ l. variable_of l ≤ m) ls → Inside m (defined vs ls)
+inside_defined : (m : ℕ) (vs : List ℕ) (ls : List Literal) → Inside m vs → AllByRecursion (λ l. variable_of l ≤ m) ls → Inside m (defined vs ls)
 inside_defined m vs [] h a = h
 inside_defined m vs (l ∷ ls) h a = inside_defined m (variable_of l ∷ vs) ls (inside_more m (variable_of l) vs h a.0) a.1
 
@@ -59,7 +59,7 @@ pub record GateInside (m : ℕ) (g : Gate) : Type 0 where
   pub left : variable_of g.left ≤ m
   pub right : variable_of g.right ≤ m
 
-gates_inside : (m : ℕ) (vs : List ℕ) (gs : List Gate) → gates_ordered m vs gs ≡ true → Inside m vs → All (GateInside m) gs
+gates_inside : (m : ℕ) (vs : List ℕ) (gs : List Gate) → gates_ordered m vs gs ≡ true → Inside m vs → AllByRecursion (GateInside m) gs
 gates_inside m vs [] h k = tt
 gates_inside m vs (g ∷ gs) h k =
     let p = ordered_parts m vs g gs h in
@@ -68,7 +68,7 @@ gates_inside m vs (g ∷ gs) h k =
       gates_inside m (variable_of g.output ∷ vs) gs p.rest (inside_more m (variable_of g.output) vs k p.output.inside),
     )
 
-nexts_inside : (m : ℕ) (vs : List ℕ) (ls : List Latch) → Inside m vs → every (λ l. known vs l.next) ls ≡ true → All (λ l. variable_of l.next ≤ m) ls
+nexts_inside : (m : ℕ) (vs : List ℕ) (ls : List Latch) → Inside m vs → every (λ l. known vs l.next) ls ≡ true → AllByRecursion (λ l. variable_of l.next ≤ m) ls
 nexts_inside m vs [] k h = tt
 nexts_inside m vs (l ∷ ls) k h =
     let p = and_parts (known vs l.next) _ h in (k (variable_of l.next) p.0, nexts_inside m vs ls k p.1)
@@ -99,23 +99,23 @@ module _ (r : Record) (gs : List Gate) (h : sound r gs ≡ true) where
       (All-map (λ l. variable_of l ≤ r.maximum) (λ g. g.output) (gates_of r gs)
       (outputs_inside r.maximum (source_variables r) (gates_of r gs) (soundness r gs h).ordered))
 
-  pub latches_own : All (Own r.maximum) (latch_literals r)
+  pub latches_own : AllByRecursion (Own r.maximum) (latch_literals r)
   latches_own = own_all r.maximum _ (latch_literals r) (sources_fresh r (soundness r gs h).fresh).1
 
-  pub inputs_own : All (λ i. Own r.maximum i.literal) (inputs_of r)
+  pub inputs_own : AllByRecursion (λ i. Own r.maximum i.literal) (inputs_of r)
   inputs_own =
       all_from_map (Own r.maximum) (λ i. i.literal) (inputs_of r)
       (own_all r.maximum (0 ∷ []) (map (λ i. i.literal) (inputs_of r)) (sources_fresh r (soundness r gs h).fresh).0)
 
-  pub sides_own : (t : Side) → All (Own r.maximum) (side_literals t r)
+  pub sides_own : (t : Side) → AllByRecursion (Own r.maximum) (side_literals t r)
   sides_own t =
       All-map (Own r.maximum) (λ i. i.literal) (of_side t (inputs_of r))
       (all_kept_by (λ i. same_side t i.side) (λ i. Own r.maximum i.literal) (inputs_of r) inputs_own)
 
-  pub gates_own : All (GateInside r.maximum) (gates_of r gs)
+  pub gates_own : AllByRecursion (GateInside r.maximum) (gates_of r gs)
   gates_own = gates_inside r.maximum (source_variables r) (gates_of r gs) (soundness r gs h).ordered sources_inside
 
-  pub nexts_known : All (λ l. variable_of l.next ≤ r.maximum) (latches_of r)
+  pub nexts_known : AllByRecursion (λ l. variable_of l.next ≤ r.maximum) (latches_of r)
   nexts_known = nexts_inside r.maximum (variables r gs) (latches_of r) variables_inside (soundness r gs h).next_known
 
   pub output_known_lem : variable_of r.output ≤ r.maximum

@@ -1,6 +1,6 @@
 -- The sizes of the clauses.
 use Rattle.std.proofs.Common.{◌≡◌, ℕ, suc, ◌+◌, ◌*◌, ◌/◌, ◌%◌, ◌<◌, ◌≤◌, Bool, true, false, cond, List, [], ◌∷◌, ◌++◌, map, length, refl, ◌∙◌, inl, inr, mul-suc, arith}
-use Rattle.std.specs.List.{flat_map, AllByRecursion as All}
+use Rattle.std.specs.List.{flat_map, AllByRecursion}
 use Rattle.std.proofs.ByRecursion.{All-map, All-append, All-weaker}
 use Rattle.std.proofs.lemmas.List.{length-map, length-append}
 use Rattle.std.proofs.lemmas.Bool.{and_parts, and_from, cases_eq, eq-eqb, ne_eqb}
@@ -58,15 +58,15 @@ clause_ranged M V l h k = elim (cases_eq l.code 0) [
 own_ranged : (M V : ℕ) (l : Literal) → M ≤ V → Own M l → Ranged V l
 own_ranged M V l k h = (omega (arith, h.some), omega (arith, h.inside))
 
-ranged_all : (V : ℕ) (ls : List Literal) → All (Ranged V) ls → in_range V ls ≡ true
+ranged_all : (V : ℕ) (ls : List Literal) → AllByRecursion (Ranged V) ls → in_range V ls ≡ true
 ranged_all V [] h = refl
 ranged_all V (l ∷ ls) h = range_from V l ls h.0.0 h.0.1 (ranged_all V ls h.1)
 
-cared_ranged : (V : ℕ) (ls : List Literal) (care value : ℕ) → All (Ranged V) ls → All (Ranged V) (cared ls care value)
+cared_ranged : (V : ℕ) (ls : List Literal) (care value : ℕ) → AllByRecursion (Ranged V) ls → AllByRecursion (Ranged V) (cared ls care value)
 cared_ranged V [] care value h = tt
 cared_ranged V (l ∷ ls) care value h =
     let r = cared_ranged V ls (care / 2) (value / 2) h.1 in
-    elim (low_bit care) as (λ b. All (Ranged V) (cond b (signed (low_bit value) l ∷ cared ls (care / 2) (value / 2)) (cared ls (care / 2) (value / 2))))
+    elim (low_bit care) as (λ b. AllByRecursion (Ranged V) (cond b (signed (low_bit value) l ∷ cared ls (care / 2) (value / 2)) (cared ls (care / 2) (value / 2))))
     [ true ↦ (signed_ranged V (low_bit value) l h.0, r) | false ↦ r ]
 
 pub cared_length : (ls : List Literal) (care value : ℕ) → length (cared ls care value) ≤ length ls
@@ -76,12 +76,12 @@ cared_length (l ∷ ls) care value =
     elim (low_bit care) as (λ b. length (cond b (signed (low_bit value) l ∷ cared ls (care / 2) (value / 2)) (cared ls (care / 2) (value / 2))) ≤ suc (length ls))
     [ true ↦ omega arith | false ↦ omega arith ]
 
-not_all_ranged : (V : ℕ) (ls : List Literal) → All (Ranged V) ls → All (Ranged V) (not_all ls)
+not_all_ranged : (V : ℕ) (ls : List Literal) → AllByRecursion (Ranged V) ls → AllByRecursion (Ranged V) (not_all ls)
 not_all_ranged V ls h = All-map (Ranged V) negation_of ls (All-weaker (Ranged V) (λ l. Ranged V (negation_of l)) (negation_ranged V) ls h)
 
 -- clauses that fit, put together
 
-fit_one : (V n : ℕ) (c : Clause) → All (Ranged V) c → length c ≤ 64 → length c + 1 ≤ n → ClausesFit V n (c ∷ [])
+fit_one : (V n : ℕ) (c : Clause) → AllByRecursion (Ranged V) c → length c ≤ 64 → length c + 1 ≤ n → ClausesFit V n (c ∷ [])
 fit_one V n c a l k = record { ranged = and_from (in_range V c) true (ranged_all V c a) refl; short = (l, tt); few = omega arith }
 
 fit_none : (V : ℕ) → ClausesFit V 0 []
@@ -102,30 +102,30 @@ fit_append V a b n xs ys k f g = record {
 fit_more : (V a n : ℕ) (xs : List Clause) → a ≤ n → ClausesFit V a xs → ClausesFit V n xs
 fit_more V a n xs k f = record { ranged = f.ranged; short = f.short; few = omega (arith, f.few) }
 
-fit_joined : {X : Type 0} (V n : ℕ) (f : X → List Clause) (xs : List X) → All (λ x. ClausesFit V n (f x)) xs → ClausesFit V (n * length xs) (flat_map f xs)
+fit_joined : {X : Type 0} (V n : ℕ) (f : X → List Clause) (xs : List X) → AllByRecursion (λ x. ClausesFit V n (f x)) xs → ClausesFit V (n * length xs) (flat_map f xs)
 fit_joined V n f [] h = fit_more V 0 (n * 0) [] (omega arith) (fit_none V)
 fit_joined V n f (x ∷ xs) h =
     fit_append V n (n * length xs) (n * suc (length xs)) (f x) (flat_map f xs) (omega (arith, mul-suc n (length xs))) h.0 (fit_joined V n f xs h.1)
 
-fit_map : {X : Type 0} (V n : ℕ) (f : X → Clause) (xs : List X) → All (λ x. ClausesFit V n (f x ∷ [])) xs → ClausesFit V (n * length xs) (map f xs)
+fit_map : {X : Type 0} (V n : ℕ) (f : X → Clause) (xs : List X) → AllByRecursion (λ x. ClausesFit V n (f x ∷ [])) xs → ClausesFit V (n * length xs) (map f xs)
 fit_map V n f [] h = fit_more V 0 (n * 0) [] (omega arith) (fit_none V)
 fit_map V n f (x ∷ xs) h =
     fit_append V n (n * length xs) (n * suc (length xs)) (f x ∷ []) (map f xs) (omega (arith, mul-suc n (length xs))) h.0 (fit_map V n f xs h.1)
 
-all_of : {X : Type 0} (P : X → Type 0) → ((x : X) → P x) → (xs : List X) → All P xs
+all_of : {X : Type 0} (P : X → Type 0) → ((x : X) → P x) → (xs : List X) → AllByRecursion P xs
 all_of P h [] = tt
 all_of P h (x ∷ xs) = (h x, all_of P h xs)
 
 module _ (r : Record) (gs : List Gate) (h : sound r gs ≡ true) (V : ℕ) (wide : r.maximum + 2 ≤ V) where
-  latches_ranged : All (Ranged V) (latch_literals r)
+  latches_ranged : AllByRecursion (Ranged V) (latch_literals r)
   latches_ranged =
       All-weaker (Own r.maximum) (Ranged V) (λ l o. own_ranged r.maximum V l (omega arith) o) (latch_literals r) (latches_own r gs h)
 
-  events_ranged : All (Ranged V) (side_literals Event r)
+  events_ranged : AllByRecursion (Ranged V) (side_literals Event r)
   events_ranged =
       All-weaker (Own r.maximum) (Ranged V) (λ l o. own_ranged r.maximum V l (omega arith) o) (side_literals Event r) (sides_own r gs h Event)
 
-  nexts_ranged : All (Ranged V) (next_literals r)
+  nexts_ranged : AllByRecursion (Ranged V) (next_literals r)
   nexts_ranged =
       All-map (Ranged V) (λ l. clause_literal r.maximum l.next) (latches_of r)
       (All-weaker (λ l. variable_of l.next ≤ r.maximum) (λ l. Ranged V (clause_literal r.maximum l.next))
@@ -159,7 +159,7 @@ module _ (r : Record) (gs : List Gate) (h : sound r gs ≡ true) (V : ℕ) (wide
   output_ranged : Ranged V (clause_literal r.maximum r.output)
   output_ranged = clause_ranged r.maximum V r.output (output_known_lem r gs h) (omega arith)
 
-  not_all_fits : (ls : List Literal) (n : ℕ) → All (Ranged V) ls → length ls ≤ n → n ≤ 63 → ClausesFit V (n + 1) (not_all ls ∷ [])
+  not_all_fits : (ls : List Literal) (n : ℕ) → AllByRecursion (Ranged V) ls → length ls ≤ n → n ≤ 63 → ClausesFit V (n + 1) (not_all ls ∷ [])
   not_all_fits ls n a k few =
       fit_one V (n + 1) (not_all ls) (not_all_ranged V ls a) (omega (arith, length-map ls negation_of)) (omega (arith, length-map ls negation_of))
 
@@ -210,7 +210,7 @@ module _ (r : Record) (gs : List Gate) (h : sound r gs ≡ true) (V : ℕ) (wide
 
   -- a row at a place whose variables are in range
   module _ (i : ℕ) (placed : due_variable r.maximum (i + 1) ≤ V) where
-    entries_fit : (ls : List Literal) → All (Ranged V) ls
+    entries_fit : (ls : List Literal) → AllByRecursion (Ranged V) ls
         → ClausesFit V (3 * length ls) (map (implies (positive (entry_variable r.maximum i))) ls)
     entries_fit ls a =
         fit_map V 3 (implies (positive (entry_variable r.maximum i))) ls

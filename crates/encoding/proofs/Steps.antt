@@ -1,6 +1,6 @@
 -- Values that satisfy the clauses of a step are those that agree with the model at the numbers that they say.
 use Rattle.std.proofs.Common.{◌≡◌, ℕ, ◌+◌, ◌*◌, ◌/◌, ◌%◌, ◌^◌, ◌<◌, ◌≤◌, Bool, true, false, cond, not, ◌&&◌, ◌||◌, eqb, leb, List, [], ◌∷◌, map, length, get_or, sym, refl, ap, ◌∙◌, subst, inl, inr, arith, pow_mono}
-use Rattle.std.specs.List.{flat_map, AllByRecursion as All}
+use Rattle.std.specs.List.{flat_map, AllByRecursion}
 use Rattle.std.proofs.lemmas.Nat.{div_below, pow_pos}
 use Rattle.std.proofs.ByRecursion.{All-get_or, All-from_get_or, all_kept_by}
 use Rattle.std.proofs.lemmas.List.{get_or-map, length-map}
@@ -122,13 +122,13 @@ module _ (M : ℕ) (v : Values) (t : v (M + 1) ≡ true) where
       ∙ ap (λ b. equal (cleared v (variable_of g.output)) (b && truth v (clause_literal M g.right))) (clause_truth M v g.left t)
       ∙ ap (λ b. equal (cleared v (variable_of g.output)) (truth (cleared v) g.left && b)) (clause_truth M v g.right t)
 
-  gates_hold : (gs : List Gate) → All (GateInside M) gs → satisfies v (flat_map (gate_clauses M) gs) ≡ true → All GateHolds gs
+  gates_hold : (gs : List Gate) → AllByRecursion (GateInside M) gs → satisfies v (flat_map (gate_clauses M) gs) ≡ true → AllByRecursion GateHolds gs
   gates_hold [] k h = tt
   gates_hold (g ∷ gs) k h =
       let p = satisfies_parts v (gate_clauses M g) (flat_map (gate_clauses M) gs) h in
       (equal_from _ _ (sym (gate_true g k.0) ∙ p.0), gates_hold gs k.1 p.1)
 
-  gates_satisfied : (gs : List Gate) → All (GateInside M) gs → All GateHolds gs → satisfies v (flat_map (gate_clauses M) gs) ≡ true
+  gates_satisfied : (gs : List Gate) → AllByRecursion (GateInside M) gs → AllByRecursion GateHolds gs → satisfies v (flat_map (gate_clauses M) gs) ≡ true
   gates_satisfied [] k h = refl
   gates_satisfied (g ∷ gs) k h =
       satisfies_append v (gate_clauses M g) (flat_map (gate_clauses M) gs) (gate_true g k.0 ∙ equal_to _ _ h.0) (gates_satisfied gs k.1 h.1)

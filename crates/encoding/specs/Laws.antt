@@ -1,6 +1,6 @@
 -- What the clauses mean: values that satisfy them, and steps of the model. Values speak of a state, an event and an answer.
 use Rattle.std.specs.Prelude.{◌≡◌, ℕ, ◌+◌, ◌*◌, ◌^◌, ◌<◌, ◌≤◌, true, false, List, [], ◌∷◌, ◌++◌, length, take, drop, None, Decides, ◌==◌, bit_and, slice_index}
-use Rattle.std.specs.List.{AllByRecursion as All}
+use Rattle.std.specs.List.{AllByRecursion}
 use Rattle.literal.specs.declared.Literal.{Literal}
 use Rattle.literal.specs.Truth.{Values, truth}
 use Rattle.circuit.specs.declared.record.Gate.{Gate}
@@ -72,13 +72,13 @@ Says r v s e a =
 -- the answer clauses are satisfied exactly at good answers
 abbrev pub AnswerSound : Type 0
 AnswerSound =
-    (r : Record) (gs : List Gate) → sound r gs ≡ true → (rows : List Row) → All (RowFits r) rows → (v : Values)
+    (r : Record) (gs : List Gate) → sound r gs ≡ true → (rows : List Row) → AllByRecursion (RowFits r) rows → (v : Values)
     → satisfies v (answer_clauses r gs rows) ≡ true
     → good (arena_of r gs) rows (state_in r v) (event_in r v) (answer_in r v) ≡ true
 
 abbrev pub AnswerComplete : Type 0
 AnswerComplete =
-    (r : Record) (gs : List Gate) → sound r gs ≡ true → (rows : List Row) → All (RowFits r) rows
+    (r : Record) (gs : List Gate) → sound r gs ≡ true → (rows : List Row) → AllByRecursion (RowFits r) rows
     → (s e a : ℕ) → s < state_count r → e < event_numbers r → a < answer_numbers r → good (arena_of r gs) rows s e a ≡ true
     → (v : Values) × (satisfies v (answer_clauses r gs rows) ≡ true) × Says r v s e a
 
@@ -91,22 +91,22 @@ pub record Candidate (r : Record) (gs : List Gate) (rows : List Row) (xs : List 
 -- the candidate clauses, where something is due by all rows, are satisfied exactly at candidates
 abbrev pub CandidateSound : Type 0
 CandidateSound =
-    (r : Record) (gs : List Gate) → sound r gs ≡ true → (rows : List Row) → All (RowFits r) rows
-    → (xs : List Exception) → All (ExceptionFits r) xs → (v : Values)
+    (r : Record) (gs : List Gate) → sound r gs ≡ true → (rows : List Row) → AllByRecursion (RowFits r) rows
+    → (xs : List Exception) → AllByRecursion (ExceptionFits r) xs → (v : Values)
     → satisfies v (candidate_clauses r gs rows xs) ≡ true → truth v (due_literal r (length rows)) ≡ true
     → Candidate r gs rows xs (state_in r v) (event_in r v) (answer_in r v)
 
 abbrev pub CandidateComplete : Type 0
 CandidateComplete =
-    (r : Record) (gs : List Gate) → sound r gs ≡ true → (rows : List Row) → All (RowFits r) rows
-    → (xs : List Exception) → All (ExceptionFits r) xs
+    (r : Record) (gs : List Gate) → sound r gs ≡ true → (rows : List Row) → AllByRecursion (RowFits r) rows
+    → (xs : List Exception) → AllByRecursion (ExceptionFits r) xs
     → (s e a : ℕ) → s < state_count r → e < event_numbers r → a < answer_numbers r → Candidate r gs rows xs s e a
     → (v : Values) × (satisfies v (candidate_clauses r gs rows xs) ≡ true) × (truth v (due_literal r (length rows)) ≡ true) × Says r v s e a
 
 -- clauses whose variables are 1 to V, of at most 64 literals each, that take at most so many cells
 pub record ClausesFit (V cells : ℕ) (cs : List Clause) : Type 0 where
   pub ranged : all_in_range V cs ≡ true
-  pub short : All (λ c. length c ≤ 64) cs
+  pub short : AllByRecursion (λ c. length c ≤ 64) cs
   pub few : cells_of cs ≤ cells
 
 -- such clauses are held whole where so many cells are free

@@ -27,7 +27,7 @@ fn numbers_fill_up(rt: HostRuntime) {
     assert_eq!(rt; roll.append(7), Err(RollFault::Full));
     assert_eq!(rt; roll.at(1), Ok(6));
     assert_eq!(rt; roll.count(), 2);
-    assert!(rt; roll.items() == [5, 6]);
+    assert!(rt; roll.items() == [5, 6].as_slice());
 }
 
 #[test]

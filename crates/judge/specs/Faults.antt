@@ -2,7 +2,7 @@
 use Rattle.std.specs.Prelude.{ℕ, List, ◌++◌, Some, None, codes, decimal, Option}
 use Rattle.aiger.specs.Faults as reading
 use Rattle.sat.specs.Faults as solving
-use Rattle.sat.specs.Texts as solverTexts
+use Rattle.sat.specs.Texts as solver_texts
 use Rattle.synthesis.specs.Faults as running
 use Rattle.judge.specs.declared.fault.JudgeFault.{JudgeFault}
 use Rattle.judge.specs.declared.fault.JudgeFault.TheVariants.{Read, Solver, Run, Memory}
@@ -19,7 +19,7 @@ refusal_in Memory = None
 
 abbrev pub reason_of : JudgeFault → List ℕ
 reason_of (Read f) = reading.read_reason f
-reason_of (Solver f) = solverTexts.fault_reason f
+reason_of (Solver f) = solver_texts.fault_reason f
 reason_of (Run f) = running.run_reason f
 reason_of Memory = codes "there is too little memory"
 

@@ -2,7 +2,7 @@
 
 ghost use Rattle.std.specs.Prelude.{◌≡◌, ◌≤◌, [], ◌∷◌, ◌++◌, length, take};
 ghost use Rattle.literal.specs.Truth.{values_of};
-ghost use Rattle.sat.specs.Clauses.{all_true, marked as marked-of};
+ghost use Rattle.sat.specs.Clauses.{all_true, marked as marked_of};
 
 use crate::check::MAX_LITERALS;
 use literal::Literal;
@@ -49,7 +49,7 @@ impl Picked {
 
     // The marked assumptions in order, the first 64 of them.
     pub fn marked(assumed: &[Literal], marks: &[u8]) -> Picked
-        ensures { take result.count result.literals ≡ take 64 (marked-of assumed.now marks.now) }
+        ensures { take result.count result.literals ≡ take 64 (marked_of assumed.now marks.now) }
     {
         let mut picked = Picked::none();
         for i in 0..assumed.len().min(marks.len()) {

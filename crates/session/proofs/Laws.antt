@@ -1,6 +1,6 @@
 -- The law of sessions: what holds after every list of calls.
 use Rattle.std.proofs.Common.{◌≡◌, ℕ, zero, suc, ◌<◌, Bool, true, false, ◌⊎◌, List, Decides, sym, refl, ◌∙◌, inl, inr, arith}
-use Rattle.std.specs.List.{AllByRecursion as All}
+use Rattle.std.specs.List.{AllByRecursion}
 use Rattle.std.proofs.lemmas.Bool.{both_ways, cases_Bool, cases_eq, cases_lt}
 use Rattle.region.specs.Subject.{Arena, Row, Exact, Playable, good}
 use Rattle.region.proofs.Subject.{exact_answered, good_parts, not_good, same_good}
@@ -50,7 +50,7 @@ module _ (g : Arena) (playable : Playable g) (rs : List Row) (ex : Exact g rs) w
   not_foreign h (far_wish s e w n l) = λ i. let z : ◌≡◌ {A = ℕ} 43 42 = cc in omega arith
 
   never_foreign_lem : {cs : List Call} {os : List Reply} {t : Stage} → History g rs cs os t
-      → All (λ o. o ≡ refused (session_number Foreign) → ⊥) os
+      → AllByRecursion (λ o. o ≡ refused (session_number Foreign) → ⊥) os
   never_foreign_lem opened = tt
   never_foreign_lem (more p q) = (not_foreign (home p) q, never_foreign_lem p)
 

@@ -1,6 +1,6 @@
 -- What holds of a session after every list of calls that it allows, refused calls too.
 use Rattle.std.specs.Prelude.{◌≡◌, ℕ, ◌<◌, Bool, true, false, ◌⊎◌, List, [], ◌∷◌, Decides, ◌≢◌}
-use Rattle.std.specs.List.{AllByRecursion as All}
+use Rattle.std.specs.List.{AllByRecursion}
 use Rattle.region.specs.Subject.{Arena, Row, Safe, Lost, Exact}
 use Rattle.session.specs.Faults.{session_number}
 use Rattle.session.specs.Sessions.{Stage, waiting, pending, Call, settling, Reply, settled, refused, Allows, ForeignTo, Gives}
@@ -23,7 +23,7 @@ pub record Promise (g : Arena) (rs : List Row) : Type 0 where
   -- on its own region a session is never foreign, so no call answers 42
   pub at_home : (cs : List Call) (os : List Reply) (t : Stage) → History g rs cs os t → ForeignTo g rs t → ⊥
   pub never_foreign : (cs : List Call) (os : List Reply) (t : Stage) → History g rs cs os t
-      → All (λ o. o ≢ refused (session_number Foreign)) os
+      → AllByRecursion (λ o. o ≢ refused (session_number Foreign)) os
   -- no step was bad, and none ended in a state from which bad steps cannot be avoided for ever
   pub never_bad : (cs : List Call) (os : List Reply) (s e w a : ℕ) (b : Bool) (after : Stage)
       → History g rs cs os (pending s e) → Gives g rs (pending s e) (settling w) (settled a b) after

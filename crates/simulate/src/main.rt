@@ -9,14 +9,16 @@ use circuit::record::MAX_GATES;
 use circuit::{Gate, Model, Record};
 use reply::reply_to;
 use std::io::{BufRead, BufReader};
+use std::process::ExitCode;
 use std::{env, fs, io};
 
-fn main(rt: HostRuntime) -> anyhow::Result<()> {
+fn main(rt: HostRuntime) -> ExitCode {
     match run(&rt) {
-        Ok(()) => Ok(()),
+        Ok(()) => ExitCode::SUCCESS,
         Err(fault) => {
-            eprintln!(rt; "simulate: {fault}")?;
-            Err(fault)
+            // Where this fails too, the status says it.
+            let _ = eprintln!(rt; "simulate: {fault}");
+            ExitCode::FAILURE
         }
     }
 }

@@ -1,7 +1,7 @@
 -- What is asked: the lists of assumptions, that they are in range and few, and what sections of marks are.
 use Rattle.std.proofs.Common.{◌≡◌, ℕ, ◌+◌, ◌-◌, ◌*◌, ◌/◌, ◌<◌, ◌≤◌, min, Bool, true, false, List, [], ◌∷◌, ◌++◌, length, take, drop, None, Ok, sym, refl, ap, ◌∙◌, subst, arith}
 use lib.Bits.{bit_and}
-use Rattle.std.specs.List.{AllByRecursion as All}
+use Rattle.std.specs.List.{AllByRecursion}
 use Rattle.std.proofs.lemmas.List.{length-append, take_all, length-take}
 use Rattle.literal.specs.declared.Literal.{Literal}
 use Rattle.literal.specs.Truth.{variable_of}
@@ -40,7 +40,7 @@ signed_variable true l = refl
 signed_variable false l = negation_variable l
 
 -- a number's literals have the variables of the model's
-signs_range : (V M : ℕ) → M ≤ V → (ls : List Literal) (n : ℕ) → All (Own M) ls → in_range V (with_signs ls n) ≡ true
+signs_range : (V M : ℕ) → M ≤ V → (ls : List Literal) (n : ℕ) → AllByRecursion (Own M) ls → in_range V (with_signs ls n) ≡ true
 signs_range V M h [] n own = refl
 signs_range V M h (l ∷ ls) n own =
     let e = signed_variable (low_bit n) l in

@@ -1,7 +1,7 @@
 -- How many clauses there are before the exceptions.
 use Rattle.std.proofs.Common.{◌≡◌, ℕ, suc, ◌+◌, ◌*◌, ◌/◌, ◌%◌, ◌^◌, ◌<◌, ◌≤◌, true, cond, List, [], ◌∷◌, length, get_or, drop, sym, refl, ap, ◌∙◌, inl, inr, pow-suc, arith, pow_mono}
 use lib.Count.{ones, ones_step, ones-le}
-use Rattle.std.specs.List.{flat_map, AllByRecursion as All}
+use Rattle.std.specs.List.{flat_map, AllByRecursion}
 use Rattle.std.proofs.lemmas.List.{length-append, length-map, length-take-le, at_drop_more, at_drop_all}
 use Rattle.std.proofs.ByRecursion.{All-get_or}
 use Rattle.std.proofs.lemmas.Bool.{cases_eq, eq-eqb, ne_eqb}
@@ -65,7 +65,7 @@ module _ (r : Record) (gs : List Gate) (fit : sound r gs ≡ true) where
       ones-le 32 row.care (omega (arith, f.care))
 
   -- one row more is counted
-  pub count_more : (rows : List Row) (i : ℕ) (d row : Row) (count : ℕ) → i < length rows → row ≡ get_or rows i d → All (RowFits r) rows
+  pub count_more : (rows : List Row) (i : ℕ) (d row : Row) (count : ℕ) → i < length rows → row ≡ get_or rows i d → AllByRecursion (RowFits r) rows
       → count + length (candidate_rows r i (drop i rows)) ≡ length (fixed_clauses r gs rows)
       → (count + (ones row.care + 2)) + length (candidate_rows r (i + 1) (drop (i + 1) rows)) ≡ length (fixed_clauses r gs rows)
   count_more rows i d row count l is fits h =

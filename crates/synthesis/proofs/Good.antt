@@ -1,7 +1,7 @@
 -- Rows and exceptions that a solver's narrow no gives are good, and where the candidate solver says no nothing is due.
 use Rattle.std.proofs.Common.{◌≡◌, ℕ, ◌+◌, ◌<◌, ◌≤◌, true, false, cond, ◌≢◌, List, [], ◌∷◌, ◌++◌, length, get_or, set, sym, refl, ap, ◌∙◌, subst, inl, inr, arith}
 use lib.Bits.{bit_and}
-use Rattle.std.specs.List.{AllByRecursion as All}
+use Rattle.std.specs.List.{AllByRecursion}
 use Rattle.std.proofs.lemmas.List.{length-append, length-map, length-take-le, length_push, get_or-set_other}
 use Rattle.std.proofs.lemmas.Bool.{both_ways, cases_Bool, and_from, and_parts, eq-eqb}
 use Rattle.literal.specs.Truth.{Values, truth}
@@ -71,7 +71,7 @@ counts_of r gs fit =
         one Event h = omega arith
         one Answer h = omega arith
 
-module _ (m : Meaning) (r : Record) (gs : List Gate) (fit : sound r gs ≡ true) (rows : List Row) (rowsFit : All (RowFits r) rows) where
+module _ (m : Meaning) (r : Record) (gs : List Gate) (fit : sound r gs ≡ true) (rows : List Row) (rowsFit : AllByRecursion (RowFits r) rows) where
   abbrev g : Arena
   g = arena_of r gs
 
@@ -131,7 +131,7 @@ module _ (m : Meaning) (r : Record) (gs : List Gate) (fit : sound r gs ≡ true)
       new = (s, ls, eq-eqb _ _ refl, out);
     }
 
-  module _ (xs : List Exception) (xsFit : All (ExceptionFits r) xs) where
+  module _ (xs : List Exception) (xsFit : AllByRecursion (ExceptionFits r) xs) where
     -- the candidate solver says no where something is due: nothing is
     pub nothing_due : Unsatisfiable (candidate_clauses r gs rows xs) (due_literal r (length rows) ∷ []) → AllGood g rows xs
     nothing_due none s e a ls le la c x = elim (cases_Bool (good g rows s e a)) [

@@ -1,6 +1,6 @@
 -- What the two solvers hold as rows and exceptions are added, and that there is room for it.
 use Rattle.std.proofs.Common.{◌≡◌, ℕ, suc, ◌+◌, ◌*◌, ◌<◌, ◌≤◌, List, [], ◌∷◌, ◌++◌, map, length, get_or, take, sym, ap, ◌∙◌, mul-one, mul-add, arith}
-use Rattle.std.specs.List.{AllByRecursion as All}
+use Rattle.std.specs.List.{AllByRecursion}
 use Rattle.std.proofs.lemmas.Nat.{mul-le}
 use Rattle.std.proofs.lemmas.List.{append_assoc, append-nil, take_at, map_push, length-append}
 use Rattle.circuit.specs.declared.record.Gate.{Gate}
@@ -49,15 +49,15 @@ module _ (r : Record) (gs : List Gate) (rows : List Row) where
       ∙ ap (λ t. answer_base r gs ++ t) (sym (map_push (answer_row r) rows row))
 
 -- rows and exceptions that are good are of the model's sizes
-all_places : {X : Type 0} (P : X → Type 0) (xs : List X) → ((i : ℕ) (d : X) → i < length xs → P (get_or xs i d)) → All P xs
+all_places : {X : Type 0} (P : X → Type 0) (xs : List X) → ((i : ℕ) (d : X) → i < length xs → P (get_or xs i d)) → AllByRecursion P xs
 all_places P [] h = tt
 all_places P (x ∷ xs) h = (h 0 x (omega arith), all_places P xs (λ i d l. h (suc i) d (omega arith)))
 
-pub rows_fit : (r : Record) (gs : List Gate) (rows : List Row) → GoodRows (arena_of r gs) rows → All (RowFits r) rows
+pub rows_fit : (r : Record) (gs : List Gate) (rows : List Row) → GoodRows (arena_of r gs) rows → AllByRecursion (RowFits r) rows
 rows_fit r gs rows h =
     all_places (RowFits r) rows (λ i d l. let w = h i d l in record { care = w.care_in_range; value = w.value_in_care })
 
-pub exceptions_fit : (r : Record) (gs : List Gate) (rows : List Row) (xs : List Exception) → GoodExceptions (arena_of r gs) rows xs → All (ExceptionFits r) xs
+pub exceptions_fit : (r : Record) (gs : List Gate) (rows : List Row) (xs : List Exception) → GoodExceptions (arena_of r gs) rows xs → AllByRecursion (ExceptionFits r) xs
 exceptions_fit r gs rows xs h =
     all_places (ExceptionFits r) xs (λ i d l. let w = h i d l in
     record { state_care = w.state_care_in_range; state_value = w.state_value_in_care; event_care = w.event_care_in_range; event_value = w.event_value_in_care })

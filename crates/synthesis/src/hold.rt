@@ -2,7 +2,7 @@
 
 ghost use Rattle.std.specs.Prelude.{◌≡◌, ◌+◌, ◌<◌, ◌≤◌, [], ◌∷◌, ◌++◌, length, take, None};
 ghost use Rattle.std.specs.Result.{result_err};
-ghost use Rattle.std.specs.List.{AllByRecursion as All};
+ghost use Rattle.std.specs.List.{AllByRecursion};
 ghost use Rattle.sat.specs.Clauses.{cells_of};
 ghost use Rattle.encoding.specs.Clauses.{answer_row, candidate_row};
 ghost use Rattle.encoding.specs.Laws.{RowFits, answer_variables, candidate_variables, answer_row_cells, candidate_row_cells};
@@ -17,7 +17,7 @@ use sat::{Solver, SolverFault};
 // one for each bit of its care.
 pub fn fixed_clauses(model: &Model<'_>, rows: &[Row]) -> usize
     requires few { length rows.now ≤ 1024 }
-    requires fit { All (RowFits model.now.«record».now) rows.now }
+    requires fit { AllByRecursion (RowFits model.now.«record».now) rows.now }
     ensures { result ≡ length (fixed_clauses model.now.«record».now model.now.gates.now rows.now) }
 {
     let mut count = 3 * model.gates() + 2;

@@ -1,5 +1,5 @@
 use Rattle.std.proofs.Common.{◌≡◌, ◌<◌, List, ◌++◌, length, take, sym, refl, ap, ◌∙◌, subst, arith}
-use Rattle.std.specs.List.{AllByRecursion as All}
+use Rattle.std.specs.List.{AllByRecursion}
 use Rattle.sat.specs.Clauses.{cells_of}
 use Rattle.game.specs.declared.row.Row.{Row}
 use Rattle.roll.specs.Rolls.{items_of, table_of}
@@ -14,7 +14,7 @@ pub fixed_clauses-fixed-requires : goal.fixed_clauses-fixed-requires
 fixed_clauses-fixed-requires g c =
     let r = c.args.model.now.«record».now in
     let gs = c.args.model.now.gates.now in
-    let P : List Row → Type 0 = λ is. All (RowFits r) is in
+    let P : List Row → Type 0 = λ is. AllByRecursion (RowFits r) is in
     record {
       few = (let e = ap length c.items.ensures in let few = used_few c.args.rows.now in omega (arith, c.requires.room.few_rows));
       fit = subst P (sym c.items.ensures) (rows_fit r gs (items_of c.args.rows.now) c.requires.turning.good_rows);

@@ -1,5 +1,5 @@
 use Rattle.std.proofs.Common.{ℕ, ◌<◌, List, length, sym, ap, ◌∙◌, subst}
-use Rattle.std.specs.List.{AllByRecursion as All}
+use Rattle.std.specs.List.{AllByRecursion}
 use Rattle.literal.specs.Truth.{variable_of}
 use Rattle.circuit.specs.declared.record.Gate.{Gate}
 use Rattle.circuit.specs.declared.record.Input.{Input}
@@ -11,21 +11,21 @@ use Rattle.circuit.proofs.model.Model.work_out.Goals as goal
 pub put_inputs-requires : goal.put_inputs-requires
 put_inputs-requires c =
     let m = c.args.self.now in
-    let P : List Input → Type 0 = All (λ i. variable_of i.literal < length c.args.values.now) in
+    let P : List Input → Type 0 = AllByRecursion (λ i. variable_of i.literal < length c.args.values.now) in
     subst P (sym c.used_inputs.ensures) (inputs_in_place m.record.now m.gates.now (length c.args.values.now) m.fit c.requires.places)
 
 pub put_latches-requires : goal.put_latches-requires
 put_latches-requires c =
     let m = c.args.self.now in
     let n : ℕ = length c.put_inputs.new.values in
-    let P : List Latch → Type 0 = All (λ l. variable_of l.literal < n) in
+    let P : List Latch → Type 0 = AllByRecursion (λ l. variable_of l.literal < n) in
     subst P (sym c.used_latches.ensures) (latches_in_place m.record.now m.gates.now n m.fit (c.put_inputs.auto.values ∙ c.requires.places))
 
 pub put_gates-requires : goal.put_gates-requires
 put_gates-requires c =
     let m = c.args.self.now in
     let n : ℕ = length c.put_latches.new.values in
-    let P : List Gate → Type 0 = All (λ g. variable_of g.output < n) in
+    let P : List Gate → Type 0 = AllByRecursion (λ g. variable_of g.output < n) in
     subst P (sym c.used_gates.ensures)
     (gates_in_place m.record.now m.gates.now n m.fit (c.put_latches.auto.values ∙ c.put_inputs.auto.values ∙ c.requires.places))
 
