@@ -2,10 +2,10 @@
 # Runs synth on every model of the gallery, and on the files and folders given, and has the brute force check what it prints: one line for
 # each, and exit status 1 if any is wrong. Needs rustc and a built synth. Not part of the gate.
 #
-#     bench/check_synth.sh [FILE or FOLDER]...        SYNTH=PROGRAM to check another program than target/bin/synth
+#     bench/check_synth.sh [FILE or FOLDER]...        SYNTH=PROGRAM to check another program than crates/synth/out/synth
 set -u
 top=$(cd "$(dirname "$0")/.." && pwd)
-synth=${SYNTH:-$top/target/bin/synth}
+synth=${SYNTH:-$top/crates/synth/out/synth}
 [ -x "$synth" ] || { echo "no program $synth"; exit 2; }
 mkdir -p "$top/target"
 rustc --edition 2024 -O -o "$top/target/brute" "$top/bench/brute.rs" || exit 2

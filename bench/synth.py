@@ -65,7 +65,7 @@ def main():
     p = argparse.ArgumentParser()
     p.add_argument("--times", type=int, default=5)
     p.add_argument("--limit", type=int, default=60, help="seconds for one run")
-    p.add_argument("--synth", default=os.path.join(TOP, "target/bin/synth"))
+    p.add_argument("--synth", default=os.path.join(TOP, "crates/synth/out/synth"))
     p.add_argument("--write", metavar="FOLDER", help="only write the families' files there")
     asked = p.parse_args()
     if asked.write:

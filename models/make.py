@@ -2,7 +2,7 @@
 """Writes the gallery: every .aag of this folder but windows.aag, which yosys made, and the table in README.md.
 
     python3 models/make.py                            writes the files; what `synth` printed stays if the circuit is the same
-    python3 models/make.py --synth target/bin/synth   also runs that program on each and puts what it prints into the comments
+    python3 models/make.py --synth crates/synth/out/synth   also runs that program on each and puts what it prints into the comments
 """
 import argparse
 import os

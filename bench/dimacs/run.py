@@ -1,7 +1,7 @@
 #!/usr/bin/env python3
 """Times `dimacs` beside the same algorithm in plain Rust and beside a learning solver, in one run.
 
-usage: python3 bench/dimacs/run.py [--times N] [--limit SECONDS] [--dimacs PROGRAM]      at the repository's top, after `rt check dimacs`
+usage: python3 bench/dimacs/run.py [--times N] [--limit SECONDS] [--dimacs PROGRAM]      at the repository's top, after `rt run` in `crates/dimacs`
 
 Needs rustc, and minisat and picosat where they are to be compared (apt-get install minisat picosat). It makes random 3-SAT near the
 threshold and clause forms of circuits, runs each program N times on each, and prints for each family the sum of the medians of user time, in
@@ -55,7 +55,7 @@ def main():
     p = argparse.ArgumentParser()
     p.add_argument("--times", type=int, default=5)
     p.add_argument("--limit", type=int, default=20, help="seconds for one run")
-    p.add_argument("--dimacs", default=os.path.join(TOP, "target/bin/dimacs"))
+    p.add_argument("--dimacs", default=os.path.join(TOP, "crates/dimacs/out/dimacs"))
     asked = p.parse_args()
     times = asked.times
     work = tempfile.mkdtemp()

@@ -1,4 +1,4 @@
-// What the benchmarks call, as functions of C's form.
+// What the benchmarks call.
 #![tactic(auto)]
 
 ghost use Rattle.std.specs.Prelude.{◌≡◌, ◌^◌, ◌<◌, ◌≤◌};
@@ -11,8 +11,7 @@ use circuit::{Gate, Model, Record};
 const REFUSED: u64 = 0x1_0000_0000;
 
 // Reads a model and steps it `count` times; the last state, or 2^32 and the number of the refusal.
-#[unsafe(no_mangle)]
-pub extern "C" fn dilgrast_walk(file: &[u8], count: u32) -> u64
+pub fn dilgrast_walk(file: &[u8], count: u32) -> u64
     ensures { result ≡ reached_in (read_of file.now 2048) count }
 {
     let mut gates = [Gate::BLANK; MAX_GATES];
@@ -24,8 +23,7 @@ pub extern "C" fn dilgrast_walk(file: &[u8], count: u32) -> u64
 }
 
 // Reads a model; 0, or the number of the refusal.
-#[unsafe(no_mangle)]
-pub extern "C" fn dilgrast_read(file: &[u8]) -> u32
+pub fn dilgrast_read(file: &[u8]) -> u32
     ensures { result ≡ refused_in (read_of file.now 2048) }
 {
     let mut gates = [Gate::BLANK; MAX_GATES];
