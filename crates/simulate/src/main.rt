@@ -14,7 +14,7 @@ use std::{env, fs, io};
 
 fn main(rt: HostRuntime) -> ExitCode {
     match run(&rt) {
-        Ok(()) => ExitCode::SUCCESS,
+        Ok(code) => code,
         Err(fault) => {
             // Where this fails too, the status says it.
             let _ = eprintln!(rt; "simulate: {fault}");
@@ -24,7 +24,7 @@ fn main(rt: HostRuntime) -> ExitCode {
 }
 
 // Reads the model that the argument names, and follows the script on standard input.
-fn run(rt: &HostRuntime) -> anyhow::Result<()> {
+fn run(rt: &HostRuntime) -> anyhow::Result<ExitCode> {
     let heap = rt.alloc();
     let mut args = env::args(rt)?;
     let _program = args.next();
@@ -33,12 +33,16 @@ fn run(rt: &HostRuntime) -> anyhow::Result<()> {
     };
     let file = match fs::read(rt, path.as_str()) {
         Ok(file) => file,
-        Err(fault) => return Err(anyhow!(format!(in heap; "cannot read {path}: {fault}")?)),
+        Err(fault) => {
+            // Told here, since an `anyhow` error has no room for a long path.
+            eprintln!(rt; "simulate: cannot read {path}: {fault}")?;
+            return Ok(ExitCode::FAILURE);
+        }
     };
     let mut gates = vec![in heap; Gate::BLANK; MAX_GATES]?;
     let mut record = Record::blank();
     simulate(rt, file.as_slice(), gates.as_mut_slice(), &mut record)?;
-    Ok(())
+    Ok(ExitCode::SUCCESS)
 }
 
 fn simulate(
