@@ -117,8 +117,6 @@ def turn(text, new, inner, path, report):
                 lambda p: new[p[0]] if p[0] in new and p[0] not in skip and p[0][0].islower() and re.search("[A-Z]", p[0]) else p[0],
                 word,
             )
-        if not antt and word.startswith("//"):
-            return word
         bare = word if word in new else word.rstrip("':")
         tail = word[len(bare):]
         behind = text[m.start() - 1 : m.start()] == "."

@@ -1,5 +1,8 @@
 // What a host asks of its session, and what comes back.
 
+ghost use Rattle.std.specs.Prelude.{◌≡◌};
+ghost use Rattle.host.specs.declared.exchange.Reply.TheVariants.{Unserved};
+
 use session::SessionFault;
 
 #[derive(Clone, Copy, PartialEq, Eq, Debug)]
@@ -37,7 +40,10 @@ pub struct Exchange {
 
 impl Exchange {
     // A call that nobody has replied to.
-    pub fn new(call: Call) -> Exchange {
+    pub fn new(call: Call) -> Exchange
+        ensures asked { result.call ≡ call }
+        ensures unserved { result.reply ≡ Unserved }
+    {
         Exchange {
             call,
             reply: Reply::Unserved,
