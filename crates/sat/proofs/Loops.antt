@@ -1,7 +1,9 @@
 -- The steps of loops over assumptions, marks and bytes.
-use Rattle.std.proofs.Common.{◌≡◌, ℕ, zero, suc, ◌+◌, ◌<◌, ◌≤◌, min, true, false, cond, eqb, List, [], ◌∷◌, ◌++◌, length, get_or, take, sym, refl, ap, ◌∙◌, inl, inr, arith}
-use Rattle.std.proofs.lemmas.List.{take_all, take-append-le, take-take, length-take, take_more, length-take-le, length_push, append-nil}
+use Rattle.std.proofs.Common.{Option, ◌≡◌, ℕ, zero, suc, ◌+◌, ◌<◌, ◌≤◌, min, true, false, cond, eqb, List, [], ◌∷◌, ◌++◌, length, get_or, take, sym, refl, ap, ◌∙◌, inl, inr, arith}
+use Rattle.std.proofs.lemmas.List.{take_all, take-append-le, take-take, length-take, take_more, length-take-le, length_push, append-nil, map-id}
 use Rattle.std.proofs.lemmas.Bool.{cases_lt, eq-eqb, ne_eqb}
+use Rattle.std.proofs.lemmas.Iterator.{YieldsList, items_from_drains}
+use Rattle.std.specs.Iterator.{Drains}
 use Rattle.literal.specs.declared.Literal.{Literal}
 use Rattle.sat.specs.Clauses.{marked}
 
@@ -71,3 +73,16 @@ module _ {Y : Type 0} (ls picked : List Literal) (ms : List ℕ) (ys : List Y) (
   pick_no e =
       let q = marked (take (length ys) ls) (take (length ys) ms) in
       so_far ∙ ap (λ z. take 64 z) (sym (append-nil q)) ∙ ap (λ b. take 64 (q ++ cond b (l ∷ []) [])) (sym (ne_eqb m 1 e)) ∙ next
+
+-- a table of literals after `extend`, of what an iterator over `all` gives
+pub extended : {S : Type 0} {steps : S → Option Literal → S → Type 0} {s : S} {all : List Literal} (old new : List Literal)
+    → (xs : List Literal) × Drains steps s xs × (new ≡ take 64 (old ++ xs)) → YieldsList steps (λ x. x) s all → new ≡ take 64 (old ++ all)
+extended {steps} {s} old new e y =
+    let d = e.1 in
+    let i = items_from_drains e.0 (d.1.0, d.1.1, (λ _. (d.0, d.1.2))) y in
+    e.2 ∙ ap (λ xs. take 64 (old ++ xs)) (sym (map-id e.0) ∙ i)
+
+-- a table made of what such an iterator gives
+pub collected : {S : Type 0} {steps : S → Option Literal → S → Type 0} {s : S} {all : List Literal} (new : List Literal)
+    → (xs : List Literal) × Drains steps s xs × (new ≡ take 64 xs) → YieldsList steps (λ x. x) s all → new ≡ take 64 all
+collected new e y = extended [] new e y

@@ -35,6 +35,17 @@ impl Literals {
         }
     }
 
+    // A table of the first 64 of these literals.
+    pub fn of<I: Iterator<Item = Literal> + Drop>(literals: I) -> Literals
+        requires can { I.can_next literals }
+        requires ends { IsFinite (I.remaining literals) }
+        ensures { (xs : List Element) × Drains I.next_gives literals xs × (result ≡ take 64 xs) }
+    {
+        let mut table = Literals::none();
+        table.extend(literals);
+        table
+    }
+
     // Puts a literal at the end, if there is room.
     pub fn push(&mut self, literal: Literal)
         ensures { self.new ≡ take 64 (self.old ++ literal ∷ []) }
