@@ -1,12 +1,9 @@
 -- Clauses in cells: what they hold is what was put there, clause by clause.
-use Rattle.std.proofs.Common.{◌≡◌, ℕ, zero, suc, ◌+◌, ◌<◌, ◌≤◌, Bool, true, false, ◌||◌, List, [], ◌∷◌, ◌++◌, map, length, take, drop, sym, refl, ap, ◌∙◌, inl, inr, subst, arith}
+use Rattle.std.proofs.Common.{◌≡◌, ℕ, zero, suc, ◌+◌, ◌≤◌, ◌||◌, List, [], ◌∷◌, ◌++◌, map, length, take, drop, sym, refl, ap, ◌∙◌, inl, inr, subst, arith}
 use Rattle.std.proofs.lemmas.List.{take_at, drop_at, length-append, length-map, append_assoc, get_or-take, get_or-drop, get_or_past, length-take}
 use Rattle.std.proofs.lemmas.Bool.{cases_lt}
 use Rattle.literal.specs.declared.Literal.{Literal}
-use Rattle.std.specs.Bool.{MatchBool}
-use Rattle.std.specs.List.{list_any, HoldsAt, AllWithin}
-use Rattle.std.proofs.lemmas.List.Elements.{All-from_all_within}
-use Rattle.std.proofs.lemmas.List.Folds.{list_any_at, list_any_none}
+use Rattle.std.specs.List.{list_any}
 use Rattle.literal.specs.Truth.{Values, truth}
 use Rattle.sat.specs.Clauses.{any_true, cells_of}
 use Rattle.cells.specs.Cells.{codes, literal, literals, flat, decode, clauses, Coded, Small}
@@ -97,9 +94,3 @@ parted cells n rest e f s =
 pub any_literals : (v : Values) (ns : List ℕ) → any_true v (literals ns) ≡ list_any (λ n. truth v (literal n)) ns
 any_literals v [] = refl
 any_literals v (n ∷ ns) = ap (λ b. truth v (literal n) || b) (any_literals v ns)
-
--- what `any` finds
-pub any_found : (p : ℕ → Bool) (ns : List ℕ) (r : Bool)
-    → MatchBool r ((k : ℕ) × (k < length ns) × HoldsAt (λ n. p n ≡ true) ns k) (AllWithin (λ n. p n ≡ false) ns 0 (length ns)) → r ≡ list_any p ns
-any_found p ns true h = sym (list_any_at p ns h.0 0 h.1 (h.2 0))
-any_found p ns false h = sym (list_any_none p ns (All-from_all_within (λ n. p n ≡ false) ns h))

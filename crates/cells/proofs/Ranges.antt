@@ -1,5 +1,7 @@
 -- What holds of the clauses in cells, told of their codes.
-use Rattle.std.proofs.Common.{◌≡◌, ℕ, zero, suc, ◌/◌, ◌<◌, ◌≤◌, true, List, [], ◌∷◌, ◌++◌, map, length, get_or, take, refl, ap, ◌∙◌, arith}
+use Rattle.std.proofs.Common.{◌≡◌, ℕ, zero, suc, ◌/◌, ◌<◌, ◌≤◌, true, ◌&&◌, List, [], ◌∷◌, ◌++◌, map, length, get_or, take, drop, sym, refl, ap, ◌∙◌, arith}
+use Rattle.std.proofs.lemmas.List.{take-append-drop}
+use Rattle.std.proofs.lemmas.List.Folds.{list_all-append}
 use Rattle.std.proofs.lemmas.Bool.{and_parts, and_from, leb-true, ltb-true}
 use Rattle.literal.specs.Truth.{variable_of}
 use Rattle.sat.specs.Clauses.{Clause}
@@ -18,17 +20,11 @@ pub clauses_held : (s : Cells) → map codes (held s) ≡ clauses (used_cells s)
 clauses_held s = back (clauses (used_cells s))
 
 pub range_push : (V : ℕ) (cs : List Clause) (c : Clause) → all_in_range V cs ≡ true → in_range V c ≡ true → all_in_range V (cs ++ c ∷ []) ≡ true
-range_push V [] c h i = and_from (in_range V c) true i refl
-range_push V (d ∷ cs) c h i =
-    let p = and_parts (in_range V d) (all_in_range V cs) h in
-    and_from (in_range V d) (all_in_range V (cs ++ c ∷ [])) p.0 (range_push V cs c p.1 i)
+range_push V cs c h i = list_all-append (in_range V) cs (c ∷ []) ∙ and_from (all_in_range V cs) (in_range V c && true) h (and_from (in_range V c) true i refl)
 
 pub range_take : (V n : ℕ) (cs : List Clause) → all_in_range V cs ≡ true → all_in_range V (take n cs) ≡ true
-range_take V zero cs h = refl
-range_take V (suc n) [] h = refl
-range_take V (suc n) (d ∷ cs) h =
-    let p = and_parts (in_range V d) (all_in_range V cs) h in
-    and_from (in_range V d) (all_in_range V (take n cs)) p.0 (range_take V n cs p.1)
+range_take V n cs h =
+    (and_parts _ _ (sym (list_all-append (in_range V) (take n cs) (drop n cs)) ∙ ap (all_in_range V) (take-append-drop n cs) ∙ h)).0
 
 -- each code's variable is one of 1 to V
 pub range_code : (V : ℕ) (c : List ℕ) → in_range V (literals c) ≡ true → (k : ℕ) → k < length c → (1 ≤ get_or c k 0 / 2) × (get_or c k 0 / 2 ≤ V)
