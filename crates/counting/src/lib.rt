@@ -3,6 +3,7 @@
 
 mod answer;
 mod narrow;
+mod question;
 mod search;
 pub mod solver;
 

@@ -3,12 +3,10 @@
 ghost use Rattle.std.specs.Prelude.{◌≡◌, ◌<◌, true, ◌&&◌, MatchOption, nat_lt};
 ghost use Rattle.literal.specs.Truth.{values_of};
 ghost use Rattle.sat.specs.Clauses.{all_true, satisfies, Unsatisfiable};
-ghost use Rattle.sat.specs.Faults.{in_range};
 ghost use Rattle.cells.specs.Held.{held};
 ghost use Rattle.counting.specs.Numbers.{values_at, table_at};
 
-use crate::solver::Counting;
-use literal::Literal;
+use crate::question::Question;
 use sat::{Solver, all_hold};
 use std::array;
 
@@ -29,11 +27,20 @@ fn values_of(number: u32) -> [bool; PLACES]
     array::from_fn(|variable| value_of(number, variable))
 }
 
-// Values that satisfy every clause and make every assumption true, if there are any.
-pub fn solve(solver: &Counting, assumed: &[Literal]) -> Option<[bool; PLACES]>
-    requires { in_range solver.now.variables assumed.now ≡ true }
-    ensures { MatchOption result (Unsatisfiable (held solver.now.cells) assumed.now) (λ t. (satisfies (values_of t) (held solver.now.cells) ≡ true) × (all_true (values_of t) assumed.now ≡ true)) }
-{
-    (0..1u32 << solver.variables()).map(values_of).find(|values| solver.satisfied(values)
-        && all_hold(assumed, values))
+impl<'q, 'a> Question<'q, 'a> {
+    // Whether values satisfy every clause and make every assumption true.
+    fn accepts(&self, values: &[bool]) -> bool
+        ensures { result ≡ (satisfies (values_of values.now) (held self.now.solver.now.cells) && all_true (values_of values.now) self.now.assumed.now) }
+    {
+        self.solver.satisfied(values) && all_hold(self.assumed, values)
+    }
+
+    // Such values, if there are any.
+    pub fn solve(&self) -> Option<[bool; PLACES]>
+        ensures { MatchOption result (Unsatisfiable (held self.now.solver.now.cells) self.now.assumed.now) (λ t. (satisfies (values_of t) (held self.now.solver.now.cells) ≡ true) × (all_true (values_of t) self.now.assumed.now ≡ true)) }
+    {
+        (0..1u32 << self.solver.variables())
+            .map(values_of)
+            .find(|values| self.accepts(values))
+    }
 }

@@ -8,8 +8,7 @@ ghost use Rattle.sat.specs.Faults.{all_in_range};
 ghost use Rattle.cells.specs.Held.{held, room};
 ghost use Rattle.counting.specs.Sizes.{size_fault, granted};
 
-use crate::answer::answer;
-use crate::narrow::narrow_marks;
+use crate::question::Question;
 use cells::Cells;
 use literal::Literal;
 use sat::{
@@ -94,7 +93,11 @@ impl<'a> Solver for Counting<'a> {
         marks: &mut [u8],
     ) -> Result<Answer, SolverFault> {
         check_decide(assumed, self.variables, values.len(), marks.len())?;
-        Ok(answer(self, assumed, values, marks))
+        let question = Question {
+            solver: self,
+            assumed,
+        };
+        Ok(question.answer(values, marks))
     }
 }
 
@@ -107,9 +110,13 @@ impl<'a> NarrowingSolver for Counting<'a> {
         marks: &mut [u8],
     ) -> Result<Answer, SolverFault> {
         check_narrow(assumed, self.variables, first, values.len(), marks.len())?;
-        let found = answer(self, assumed, values, marks);
+        let question = Question {
+            solver: self,
+            assumed,
+        };
+        let found = question.answer(values, marks);
         if found == Answer::No {
-            narrow_marks(self, assumed, first, marks);
+            question.narrow(first, marks);
             fill_front(values, self.variables + 1, 0);
         }
         Ok(found)
