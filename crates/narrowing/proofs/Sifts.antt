@@ -1,7 +1,8 @@
 -- Taking marks away, place by place.
-use Rattle.std.proofs.Common.{◌≡◌, ℕ, zero, suc, ◌+◌, ◌<◌, ◌≤◌, Bool, true, false, cond, eqb, ◌≢◌, List, [], ◌∷◌, ◌++◌, length, get_or, take, drop, set, sym, refl, ap, ◌∙◌, subst, inl, inr, arith}
-use Rattle.std.proofs.lemmas.List.{take_more, take-set, length-take-le, length-append, length-set, get_or-set_other, drop-set-lt, append-nil}
-use Rattle.std.proofs.lemmas.Bool.{cases_eq, eq-eqb, ne_eqb}
+use Rattle.std.proofs.Common.{not, Some, None, Option, Bor, MatchOption, ◌≡◌, ℕ, zero, suc, ◌+◌, ◌<◌, ◌≤◌, Bool, true, false, cond, eqb, ◌≢◌, List, [], ◌∷◌, ◌++◌, length, get_or, take, drop, set, sym, refl, ap, ◌∙◌, subst, inl, inr, arith}
+use Rattle.std.proofs.lemmas.List.{take_more, take-set, length-take-le, length-append, length-set, get_or-set_other, drop-set-lt, append-nil, drop_more, length-drop}
+use Rattle.std.proofs.lemmas.Bool.{cases_eq, eq-eqb, ne_eqb, true≢false}
+use Rattle.std.specs.Option.{option_eq}
 use Rattle.literal.specs.declared.Literal.{Literal}
 use Rattle.literal.specs.Truth.{Values}
 use Rattle.sat.specs.Clauses.{all_true, marked}
@@ -175,3 +176,13 @@ sifted_place assumed first j t e again ms s i h m =
 pub sifted_as : (assumed : List Literal) (first j t u : ℕ) (e again ms ns : List ℕ) → ns ≡ ms → u ≡ t → Sifted assumed first j t e again ms → Sifted assumed first j u e again ns
 sifted_as assumed first j t u e again ms ns p q s =
     subst (λ (x : List ℕ). Sifted assumed first j u e again x) (sym p) (subst (λ (x : ℕ). Sifted assumed first j x e again ms) (sym q) s)
+
+-- the next of what is marked again
+pub turned : (again rest rest' : List ℕ) (t : ℕ) (r : Option (Bor ℕ)) (Same : Type 0) → t < length again → rest ≡ drop t again
+    → MatchOption r ((length rest ≡ 0) × Same) (λ x. rest ≡ x.now ∷ rest')
+    → (rest' ≡ drop (t + 1) again) × ((one : Bor ℕ) → one.now ≡ 1 → not (option_eq (λ x y. eqb x.now y.now) r (Some one)) ≡ true → get_or again t 0 ≡ 1 → ⊥)
+turned again rest rest' t None Same h s m = absurd (omega (arith, m.0, ap length s, length-drop t again))
+turned again rest rest' t (Some x) Same h s m =
+    let d : x.now ∷ rest' ≡ get_or again t 0 ∷ drop (t + 1) again = sym m ∙ s ∙ drop_more again t 0 h in
+    let v : x.now ≡ get_or again t 0 = cc in
+    (cc, λ one e b q. true≢false (sym b ∙ ap not (eq-eqb x.now one.now (v ∙ q ∙ sym e))))
