@@ -172,10 +172,10 @@ pub sifted_place : (assumed : List Literal) (first j t : ℕ) (e again ms : List
 sifted_place assumed first j t e again ms s i h m =
     omega (arith, place_more assumed first j t e again ms i h s m, marked_front assumed e (j + 1))
 
--- the same marks and place under other names
-pub sifted_as : (assumed : List Literal) (first j t u : ℕ) (e again ms ns : List ℕ) → ns ≡ ms → u ≡ t → Sifted assumed first j t e again ms → Sifted assumed first j u e again ns
-sifted_as assumed first j t u e again ms ns p q s =
-    subst (λ (x : List ℕ). Sifted assumed first j u e again x) (sym p) (subst (λ (x : ℕ). Sifted assumed first j x e again ms) (sym q) s)
+-- the same marks under another name, and what is left of those marked again
+pub sifted_as : (assumed : List Literal) (first j t : ℕ) (e again ms ns left : List ℕ) → ns ≡ ms → left ≡ drop t again → Sifted assumed first j t e again ms
+    → (u : ℕ) × Sifted assumed first j u e again ns × (left ≡ drop u again)
+sifted_as assumed first j t e again ms ns left p l s = (t, subst (λ (x : List ℕ). Sifted assumed first j t e again x) (sym p) s, l)
 
 -- the next of what is marked again
 pub turned : (again rest rest' : List ℕ) (t : ℕ) (r : Option (Bor ℕ)) (Same : Type 0) → t < length again → rest ≡ drop t again

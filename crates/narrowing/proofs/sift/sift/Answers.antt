@@ -6,7 +6,8 @@ use Rattle.narrowing.proofs.sift.sift.Goals.{then-mark-eq1+then-ne+then-i-first,
 
 pub loop-i-init : goal.loop-i-init
 loop-i-init c =
-    (0, sifted_as c.args.assumed.now c.args.first 0 0 0 c.args.marks.now c.args.again.now _ _ (take-append-drop _ _) refl (sifted_none c.args.assumed.now c.args.first c.args.marks.now c.args.again.now), c.iter-again.ensures.rest)
+    sifted_as c.args.assumed.now c.args.first 0 0 c.args.marks.now c.args.again.now _ _ _ (take-append-drop _ _) c.iter-again.ensures.rest
+    (sifted_none c.args.assumed.now c.args.first c.args.marks.now c.args.again.now)
 
 pub loop-i-preserved : goal.loop-i-preserved
 loop-i-preserved c =
@@ -27,33 +28,23 @@ loop-i-preserved c =
     elim c.if-mark-eq1.branch [
       | then-mark-eq1+then-ne+then-i-first w ↦
           let m = here ∙ w.if-mark-eq1.true in
-          let n = turned again _ _ t w.next.result _ (within m) c.loop-i.invariant.2 w.next.ensures.steps in (
-            t + 1,
-            sifted_as ls f (i + 1) (t + 1) (t + 1) e again _ _ (ap (λ x. x ++ post) w.mark-items-is ∙ sym (set-append_left items post i 0 in-items)) refl
-                (sifted_drop ls f i t e again ms inside c.requires.room s m (within m) w.if-i-first.true (n.1 _ refl (sym w.ne.ensures ∙ w.if-ne.true))),
-            ap (λ x. x.rest.now) w.again-is ∙ n.0,
-          )
+          let n = turned again _ _ t w.next.result _ (within m) c.loop-i.invariant.2 w.next.ensures.steps in
+          sifted_as ls f (i + 1) (t + 1) e again _ _ _ (ap (λ x. x ++ post) w.mark-items-is ∙ sym (set-append_left items post i 0 in-items)) (ap (λ x. x.rest.now) w.again-is ∙ n.0)
+          (sifted_drop ls f i t e again ms inside c.requires.room s m (within m) w.if-i-first.true (n.1 _ refl (sym w.ne.ensures ∙ w.if-ne.true)))
       | else-mark-eq1 w ↦ elim w.else-mark-eq1.branch [
         | else-mark-eq1-via-then-mark-eq1+then-ne+else-i-first x ↦ (
             let m = here ∙ x.if-mark-eq1.true in
-            let n = turned again _ _ t x.next.result _ (within m) c.loop-i.invariant.2 x.next.ensures.steps in (
-              t + 1,
-              sifted_as ls f (i + 1) (t + 1) (t + 1) e again ms _ (ap (λ y. y ++ post) (w.mark-items-is ∙ x.mark-items-is ∙ set-get_or items i 0)) refl (sifted_stay ls f i t e again ms inside c.requires.room s m (within m)),
-              ap (λ y. y.rest.now) (w.again-is ∙ x.again-is) ∙ n.0,
-            ))
+            let n = turned again _ _ t x.next.result _ (within m) c.loop-i.invariant.2 x.next.ensures.steps in
+            sifted_as ls f (i + 1) (t + 1) e again ms _ _ (ap (λ y. y ++ post) (w.mark-items-is ∙ x.mark-items-is ∙ set-get_or items i 0)) (ap (λ y. y.rest.now) (w.again-is ∙ x.again-is) ∙ n.0)
+            (sifted_stay ls f i t e again ms inside c.requires.room s m (within m)))
         | else-mark-eq1-via-then-mark-eq1+else-ne x ↦ (
             let m = here ∙ x.if-mark-eq1.true in
-            let n = turned again _ _ t x.next.result _ (within m) c.loop-i.invariant.2 x.next.ensures.steps in (
-              t + 1,
-              sifted_as ls f (i + 1) (t + 1) (t + 1) e again ms _ (ap (λ y. y ++ post) (w.mark-items-is ∙ x.mark-items-is ∙ set-get_or items i 0)) refl (sifted_stay ls f i t e again ms inside c.requires.room s m (within m)),
-              ap (λ y. y.rest.now) (w.again-is ∙ x.again-is) ∙ n.0,
-            ))
-        | else-mark-eq1-via-else-mark-eq1 x ↦ (
-          t,
-          sifted_as ls f (i + 1) t t e again ms _ (ap (λ y. y ++ post) (w.mark-items-is ∙ x.mark-items-is ∙ set-get_or items i 0)) refl
-              (sifted_skip ls f i t e again ms inside c.requires.room s (λ q. x.if-mark-eq1.false (sym here ∙ q))),
-          ap (λ y. y.rest.now) (w.again-is ∙ x.again-is) ∙ c.loop-i.invariant.2,
-        )
+            let n = turned again _ _ t x.next.result _ (within m) c.loop-i.invariant.2 x.next.ensures.steps in
+            sifted_as ls f (i + 1) (t + 1) e again ms _ _ (ap (λ y. y ++ post) (w.mark-items-is ∙ x.mark-items-is ∙ set-get_or items i 0)) (ap (λ y. y.rest.now) (w.again-is ∙ x.again-is) ∙ n.0)
+            (sifted_stay ls f i t e again ms inside c.requires.room s m (within m)))
+        | else-mark-eq1-via-else-mark-eq1 x ↦
+            sifted_as ls f (i + 1) t e again ms _ _ (ap (λ y. y ++ post) (w.mark-items-is ∙ x.mark-items-is ∙ set-get_or items i 0)) (ap (λ y. y.rest.now) (w.again-is ∙ x.again-is) ∙ c.loop-i.invariant.2)
+            (sifted_skip ls f i t e again ms inside c.requires.room s (λ q. x.if-mark-eq1.false (sym here ∙ q)))
       ]
     ]
 
