@@ -9,8 +9,7 @@ use literal::Literal;
 // Takes the marks of assumptions that were not marked again when the marked ones alone were asked about; the first ones
 // keep theirs.
 pub fn sift(assumed: &[Literal], first: usize, marks: &mut [u8], again: &[u8])
-    requires room { length assumed.now ≤ length marks.old }
-    requires enough { length (marked assumed.now marks.old) ≤ length again.now }
+    requires { length assumed.now ≤ length marks.old }
     ensures bound { (k : ℕ) → slice_index marks.new k ≤ slice_index marks.old k }
     ensures fewer { (k : ℕ) → slice_index marks.new k ≡ 1 → slice_index marks.old k ≡ 1 }
     ensures firsts { (k : ℕ) → k < first → slice_index marks.new k ≡ slice_index marks.old k }

@@ -1,7 +1,6 @@
 use Rattle.std.proofs.Common.{◌+◌, length, drop, set, refl, ap, ◌∙◌, arith}
-use Rattle.std.proofs.lemmas.List.{length-set}
 use Rattle.sat.proofs.Decisions.{decided_yes, decided_no}
-use Rattle.sat.proofs.Laws.{marked_picked, marked_length}
+use Rattle.sat.proofs.Laws.{marked_picked}
 use Rattle.narrowing.proofs.Trying.{never, picked_passes, tried_yes, tried_no}
 use Rattle.narrowing.proofs.drops.try_without.Goals as goal
 
@@ -11,14 +10,6 @@ returns-in_err-decide g c =
     let e = c.as_slice.ensures.value ∙ c.marked-picked.ensures ∙ marked_picked c.args.assumed.now ms c.requires.short in
     never _ c.in_err-decide.field-0.0 c.in_err-decide.ensures.refused
     (picked_passes (g.S.Solver.meaning c.args.below.now).variables (length c.args.values.now) 64 c.args.assumed.now c.as_slice.result.now ms c.requires.ranged c.requires.short e c.requires.values_room (omega arith))
-
-pub sift-requires : goal.sift-requires
-sift-requires g c =
-    let ms = set c.args.marks.now c.args.i 0 in
-    record {
-      room = omega (arith, length-set c.args.marks.now c.args.i 0, c.requires.marks_room);
-      enough = omega (arith, marked_length c.args.assumed.now ms, c.requires.short, c.decide.auto.marks);
-    }
 
 pub returns-in-Yes : goal.returns-in-Yes
 returns-in-Yes g c =

@@ -1,7 +1,8 @@
-use Rattle.std.proofs.Common.{◌≡◌, ℕ, ◌++◌, length, drop}
-use Rattle.narrowing.proofs.Sifts.{Sifted}
+use Rattle.std.proofs.Common.{◌≡◌, ◌++◌, length, drop}
+use Rattle.narrowing.proofs.Sifts.{Sifted, asked}
 use Rattle.narrowing.proofs.sift.sift.Given as goal
 
 abbrev pub invariant-loop-i : goal.invariant-loop-i
 invariant-loop-i l =
-    (t : ℕ) × Sifted l.assumed l.first l.i t l.fn.marks l.fn.again (l.mark-items ++ drop (length l.assumed) l.fn.marks) × (l.again.rest.now ≡ drop t l.fn.again)
+    Sifted l.assumed l.first l.i l.fn.marks l.fn.again (l.mark-items ++ drop (length l.assumed) l.fn.marks)
+    × (l.again.rest.now ≡ drop (asked l.assumed l.fn.marks l.i) l.fn.again)
