@@ -20,6 +20,7 @@ fn in_range(literals: &[Literal], variables: usize) -> bool
     })
 }
 
+#[tactic(auto, unfolding(crate::specs::Faults::literals_fault))]
 fn check_literals(literals: &[Literal], variables: usize) -> Result<(), SolverFault>
     ensures { result_err result ≡ literals_fault variables literals.now None }
 {
@@ -33,6 +34,7 @@ fn check_literals(literals: &[Literal], variables: usize) -> Result<(), SolverFa
 }
 
 // A clause, where so many cells are left free.
+#[tactic(auto, unfolding(crate::specs::Faults::literals_fault, crate::specs::Faults::hold_fault))]
 pub fn check_hold(clause: &[Literal], variables: usize, free: usize) -> Result<(), SolverFault>
     ensures { result_err result ≡ hold_fault variables free clause.now }
 {
@@ -45,6 +47,7 @@ pub fn check_hold(clause: &[Literal], variables: usize, free: usize) -> Result<(
 }
 
 // Leaving the first `kept` of `count` clauses.
+#[tactic(auto, unfolding(crate::specs::Faults::keep_fault))]
 pub fn check_keep(count: usize, kept: usize) -> Result<(), SolverFault>
     ensures { result_err result ≡ keep_fault count kept }
 {
@@ -56,6 +59,7 @@ pub fn check_keep(count: usize, kept: usize) -> Result<(), SolverFault>
 }
 
 // Assumptions, and the lengths of the buffers for values and for marks.
+#[tactic(auto, unfolding(crate::specs::Faults::literals_fault, crate::specs::Faults::decide_fault))]
 pub fn check_decide(
     assumed: &[Literal],
     variables: usize,
@@ -73,6 +77,7 @@ pub fn check_decide(
 }
 
 // The same, and how many assumptions are always to be marked.
+#[tactic(auto, unfolding(crate::specs::Faults::literals_fault, crate::specs::Faults::decide_fault, crate::specs::Faults::narrow_fault))]
 pub fn check_narrow(
     assumed: &[Literal],
     variables: usize,
