@@ -28,8 +28,8 @@ pub enum NoStep {
 impl From<StepFault> for NoStep {
     ghost from_gives = { λ f r. r ≡ Refused f };
 
-    fn from(fault: StepFault) -> NoStep {
-        NoStep::Refused(fault)
+    fn from(refusal: StepFault) -> NoStep {
+        NoStep::Refused(refusal)
     }
 }
 
