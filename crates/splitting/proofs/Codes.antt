@@ -3,7 +3,7 @@ use Rattle.std.proofs.Common.{◌≡◌, ℕ, zero, suc, ◌+◌, ◌<◌, ◌�
 use Rattle.std.proofs.lemmas.List.{take_at, drop_at, length-append, append_assoc, append-nil, get_or_append_left, length_push, get_or_push, take_more_set, take-set, take_more, take_all, take-append-drop, append_cancel_right, length-take, length-take-le, get_or-take, take-take}
 use Rattle.std.proofs.lemmas.Bool.{cases_lt}
 use Rattle.literal.specs.declared.Literal.{Literal}
-use Rattle.splitting.specs.Cells.{flat, decode, clauses, Starts, Within, codes}
+use Rattle.splitting.specs.Cells.{flat, decode, clauses, Starts, Within, Stored, codes}
 use Rattle.splitting.specs.Held.{literals}
 use Rattle.splitting.proofs.Steps.{ended, length_flat}
 
@@ -78,43 +78,43 @@ front_all cells p j n e s h b =
 -- a clause more, and what it keeps
 pub record Pushed (old new c : List ℕ) (V : ℕ) : Type 0 where
   pub after : clauses new ≡ clauses old ++ (c ∷ [])
-  pub coded : flat (clauses new) ≡ new
-  pub ranges : (j : ℕ) → j < length (clauses new) → Within (get_or (clauses new) j []) V
+  pub stored : Stored new V
   pub count : length (clauses new) ≡ length (clauses old) + 1
 
-pub pushed : (old new c : List ℕ) (V : ℕ) → flat (clauses old) ≡ old → ((j : ℕ) → j < length (clauses old) → Within (get_or (clauses old) j []) V)
-    → Within c V → new ≡ old ++ (length c ∷ c) → Pushed old new c V
-pushed old new c V w r t e =
-    let p : clauses new ≡ clauses old ++ (c ∷ []) = ap clauses e ∙ clauses_push old c w in
+pub pushed : (old new c : List ℕ) (V : ℕ) → Stored old V → Within c V → new ≡ old ++ (length c ∷ c) → Pushed old new c V
+pushed old new c V w t e =
+    let p : clauses new ≡ clauses old ++ (c ∷ []) = ap clauses e ∙ clauses_push old c w.coded in
     let P : List ℕ → Type 0 = λ x. Within x V in
     record {
       after = p;
-      coded = ap flat p ∙ flat_push (clauses old) c ∙ ap (λ x. x ++ (length c ∷ c)) w ∙ sym e;
-      ranges = λ j h.
-          elim (cases_lt j (length (clauses old))) [
-            | inl b ↦ subst P (sym (ap (λ x. get_or x j []) p ∙ get_or_append_left (clauses old) (c ∷ []) [] j b)) (r j b)
-            | inr b ↦ subst P (sym (ap (λ x. get_or x j []) p ∙ get_or_push (clauses old) c [] j (omega (arith, h, ap length p, length_push (clauses old) c)))) t
-          ];
+      stored = record {
+        coded = ap flat p ∙ flat_push (clauses old) c ∙ ap (λ x. x ++ (length c ∷ c)) w.coded ∙ sym e;
+        ranges = λ j h.
+            elim (cases_lt j (length (clauses old))) [
+              | inl b ↦ subst P (sym (ap (λ x. get_or x j []) p ∙ get_or_append_left (clauses old) (c ∷ []) [] j b)) (w.ranges j b)
+              | inr b ↦ subst P (sym (ap (λ x. get_or x j []) p ∙ get_or_push (clauses old) c [] j (omega (arith, h, ap length p, length_push (clauses old) c)))) t
+            ];
+      };
       count = ap length p ∙ length_push (clauses old) c;
     }
 
 -- the first clauses, and what they keep
 pub record Cut (old new : List ℕ) (n V : ℕ) : Type 0 where
   pub after : clauses new ≡ take n (clauses old)
-  pub coded : flat (clauses new) ≡ new
-  pub ranges : (j : ℕ) → j < length (clauses new) → Within (get_or (clauses new) j []) V
+  pub stored : Stored new V
   pub count : length (clauses new) ≡ n
 
-pub cut : (old new : List ℕ) (n V : ℕ) → ((j : ℕ) → j < length (clauses old) → Within (get_or (clauses old) j []) V) → n ≤ length (clauses old)
-    → new ≡ flat (take n (clauses old)) → Cut old new n V
-cut old new n V r h e =
+pub cut : (old new : List ℕ) (n V : ℕ) → Stored old V → n ≤ length (clauses old) → new ≡ flat (take n (clauses old)) → Cut old new n V
+cut old new n V w h e =
     let p : clauses new ≡ take n (clauses old) = ap clauses e ∙ clauses_flat (take n (clauses old)) in
     let P : List ℕ → Type 0 = λ x. Within x V in
     let size : length (clauses new) ≡ n = ap length p ∙ length-take-le n (clauses old) h in
     record {
       after = p;
-      coded = ap flat p ∙ sym e;
-      ranges = λ j b. subst P (sym (ap (λ x. get_or x j []) p ∙ get_or-take n (clauses old) j [] (omega arith))) (r j (omega arith));
+      stored = record {
+        coded = ap flat p ∙ sym e;
+        ranges = λ j b. subst P (sym (ap (λ x. get_or x j []) p ∙ get_or-take n (clauses old) j [] (omega arith))) (w.ranges j (omega arith));
+      };
       count = size;
     }
 

@@ -65,3 +65,8 @@ pub record Reads (cells : List ℕ) (p j : ℕ) (c : List ℕ) : Type 0 where
 -- each literal's variable is one of 1 to V
 abbrev pub Within : List ℕ → ℕ → Type 0
 Within c V = (k : ℕ) → k < length c → (1 ≤ slice_index c k / 2) × (slice_index c k / 2 ≤ V)
+
+-- the cells hold nothing but clauses over variables 1 to V
+pub record Stored (cells : List ℕ) (V : ℕ) : Type 0 where
+  pub coded : flat (clauses cells) ≡ cells
+  pub ranges : (j : ℕ) → j < length (clauses cells) → Within (slice_index_or (clauses cells) j []) V

@@ -17,6 +17,7 @@ mod store;
 mod assume;
 mod blame;
 mod propagate;
+mod reason;
 mod search;
 mod solve;
 mod trail;

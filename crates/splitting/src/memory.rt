@@ -1,43 +1,35 @@
 // A solver's memory: the borrowed numbers, divided once.
 
-ghost use Rattle.std.specs.Prelude.{◌≡◌, length};
-ghost use Rattle.splitting.specs.Sizes.{variables_over, cells_over, column_over};
+ghost use Rattle.std.specs.Prelude.{◌≡◌, ◌-◌, ◌≤◌, length, take};
+ghost use Rattle.splitting.specs.Cells.{clauses, Stored};
+ghost use Rattle.splitting.specs.Sizes.{variables_over, cells_over};
 
 use crate::sizes::{Sizes, sizes_over};
-
-// A part of the numbers, a struct of its own so that two can be lent at once.
-#[derive(Drop)]
-pub struct Column<'a> {
-    pub numbers: &'a mut [u32],
-}
+use crate::trail::Trail;
 
 #[derive(Drop)]
 pub struct Memory<'a> {
-    // By variable: 0 for no value yet, 1 for true, 2 for false.
-    pub value: Column<'a>,
-    // The literals that are true, in their order, and why.
-    pub trail: Column<'a>,
-    pub reason: Column<'a>,
+    pub trail: Trail<'a>,
     // By variable: whether what is assumed of it counts in a conflict.
-    pub seen: Column<'a>,
+    pub seen: &'a mut [u32],
     // Each clause is its length and then its literals' codes.
-    pub cells: Column<'a>,
+    pub cells: &'a mut [u32],
     // How many cells are in use, and how many clauses they hold.
     pub used: usize,
     pub count: usize,
     pub variables: usize,
+    ghost within: { used ≤ length cells.now },
+    ghost stored: { Stored (take used cells.now) variables },
+    ghost counted: { count ≡ length (clauses (take used cells.now)) },
+    ghost table: { variables ≤ length trail.value.now - 1 },
+    ghost marks: { length seen.now ≡ length trail.value.now },
 }
 
 // Divides the numbers, with no cell in use; over sizes that do not fit there are no variables and no cells.
 pub fn divide<'a>(numbers: &'a mut [u32], variables: usize) -> Memory<'a>
-    ensures value { length result.value.numbers.now ≡ column_over (length numbers.old) variables }
-    ensures trail { length result.trail.numbers.now ≡ column_over (length numbers.old) variables }
-    ensures reason { length result.reason.numbers.now ≡ column_over (length numbers.old) variables }
-    ensures seen { length result.seen.numbers.now ≡ column_over (length numbers.old) variables }
-    ensures cells { length result.cells.numbers.now ≡ cells_over (length numbers.old) variables }
+    ensures cells { length result.cells.now ≡ cells_over (length numbers.old) variables }
     ensures variables { result.variables ≡ variables_over (length numbers.old) variables }
     ensures used { result.used ≡ 0 }
-    ensures count { result.count ≡ 0 }
 {
     let Sizes {
         variables,
@@ -45,16 +37,14 @@ pub fn divide<'a>(numbers: &'a mut [u32], variables: usize) -> Memory<'a>
         cells,
     } = sizes_over(numbers.len(), variables);
     let (value, rest) = numbers.split_at_mut(column);
-    let (trail, rest) = rest.split_at_mut(column);
-    let (reason, rest) = rest.split_at_mut(column);
+    let (literals, rest) = rest.split_at_mut(column);
+    let (reasons, rest) = rest.split_at_mut(column);
     let (seen, rest) = rest.split_at_mut(column);
     let (cells, _) = rest.split_at_mut(cells);
     Memory {
-        value: Column { numbers: value },
-        trail: Column { numbers: trail },
-        reason: Column { numbers: reason },
-        seen: Column { numbers: seen },
-        cells: Column { numbers: cells },
+        trail: Trail::new(value, literals, reasons),
+        seen,
+        cells,
         used: 0,
         count: 0,
         variables,

@@ -1,8 +1,7 @@
 // The solver.
 
-ghost use Rattle.std.specs.Prelude.{◌≡◌, ℕ, ◌-◌, ◌/◌, ◌<◌, ◌≤◌, List, [], length, slice_index, slice_index_or};
-ghost use Rattle.splitting.specs.Cells.{clauses as clauses_in, flat};
-ghost use Rattle.splitting.specs.Held.{used_cells, held, cell_number};
+ghost use Rattle.std.specs.Prelude.{◌≡◌, [], length};
+ghost use Rattle.splitting.specs.Held.{held, cell_number};
 ghost use Rattle.splitting.specs.Sizes.{variables_over, cells_over};
 
 use crate::memory::{Memory, divide};
@@ -13,15 +12,6 @@ use sat::{Answer, Solver, SolverFault, check_decide, check_hold, check_keep};
 #[derive(Drop)]
 pub struct Splitting<'a> {
     memory: Memory<'a>,
-    ghost within: { memory.used ≤ cell_number memory },
-    ghost coded: { flat (clauses_in (used_cells memory)) ≡ used_cells memory },
-    ghost least: { (j : ℕ) → j < length (clauses_in (used_cells memory)) → (k : ℕ) → k < length (slice_index_or (clauses_in (used_cells memory)) j []) → 1 ≤ slice_index (slice_index_or (clauses_in (used_cells memory)) j []) k / 2 },
-    ghost most: { (j : ℕ) → j < length (clauses_in (used_cells memory)) → (k : ℕ) → k < length (slice_index_or (clauses_in (used_cells memory)) j []) → slice_index (slice_index_or (clauses_in (used_cells memory)) j []) k / 2 ≤ memory.variables },
-    ghost counted: { memory.count ≡ length (clauses_in (used_cells memory)) },
-    ghost values: { memory.variables ≤ length memory.value.numbers.now - 1 },
-    ghost trails: { length memory.trail.numbers.now ≡ length memory.value.numbers.now },
-    ghost reasons: { length memory.reason.numbers.now ≡ length memory.value.numbers.now },
-    ghost marks: { length memory.seen.numbers.now ≡ length memory.value.numbers.now },
 }
 
 impl<'a> Splitting<'a> {
@@ -32,8 +22,9 @@ impl<'a> Splitting<'a> {
         ensures variables { result.memory.variables ≡ variables_over (length numbers.old) variables }
         ensures cells { cell_number result.memory ≡ cells_over (length numbers.old) variables }
     {
-        let memory = divide(numbers, variables);
-        Splitting { memory }
+        Splitting {
+            memory: divide(numbers, variables),
+        }
     }
 }
 

@@ -1,22 +1,21 @@
-use Rattle.std.proofs.Common.{[], length, get_or}
-use Rattle.splitting.specs.Cells.{clauses, codes}
-use Rattle.splitting.specs.Held.{used_cells}
-use Rattle.splitting.proofs.Givens.{within_table}
+use Rattle.std.proofs.Common.{rules, ◌≡◌, ℕ, ◌<◌, true, false, length, slice_index, ◌+◌, ◌-◌, ◌*◌, ◌≤◌, ◌/◌, ◌%◌, Bool, nat_eq, nat_lt, List, [], ◌∷◌, ◌++◌, slice_index_or, slice_set, bit_and, bit_or, Fits, w8, w32, w64, Bor, MutBor}
+use Rattle.splitting.specs.Cells.{Within, Holds, codes}
+use Rattle.splitting.specs.Trails.{AllMet, Refutes}
+use Rattle.splitting.specs.Held.{used_cells, held, cell_number}
 use Rattle.splitting.proofs.memory.Memory.solve.Goals as goal
 
-pub solve_in-requires : goal.solve_in-requires
-solve_in-requires c =
-    let m = c.args.self.now in
-    let f = c.requires.fit in
-    let size = length m.value.numbers.now in
-    record {
-      within = f.within;
-      whole = record {
-        coded = f.coded;
-        table = λ j h. within_table (get_or (clauses (used_cells m)) j []) m.variables size f.values (f.ranges j h);
-      };
-      inside = within_table (codes c.args.assumed.now) m.variables size f.values c.requires.inside;
-      trails = f.trails;
-      reasons = f.reasons;
-      marks = f.marks;
-    }
+-- src/solve.rt:28:9
+pub invariant_of-self-3 : goal.invariant_of-self-3
+invariant_of-self-3 c = ?
+
+-- src/solve.rt:13:5
+pub returns-clause-same : goal.returns-clause-same
+returns-clause-same c = ?
+
+-- src/solve.rt:13:5
+pub returns-clause-granted : goal.returns-clause-granted
+returns-clause-granted c = ?
+
+-- src/solve.rt:13:5
+pub returns-clause-none : goal.returns-clause-none
+returns-clause-none c = ?
