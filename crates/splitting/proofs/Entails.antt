@@ -2,7 +2,8 @@
 use Rattle.std.proofs.Common.{◌≡◌, ℕ, ◌+◌, ◌-◌, ◌/◌, ◌%◌, ◌<◌, ◌≤◌, ◌≢◌, List, [], length, get_or, set, sym, ap, ◌∙◌, subst, inl, inr, arith}
 use Rattle.std.proofs.lemmas.List.{get_or-set_same, get_or-set_other, length-set}
 use Rattle.std.proofs.lemmas.Bool.{cases_eq, cases_lt}
-use Rattle.splitting.specs.Cells.{Holds, Fails, Met, clauses}
+use Rattle.splitting.specs.Cells.{Holds, Fails, Met}
+use Rattle.cells.specs.Cells.{clauses}
 use Rattle.splitting.specs.Trails.{Kept, True, Models, SeenTrue, OpenTrue, Follows, Denied, Clausal, Reasons, Front, MetBy, FrontBy, Fronts, negation}
 use Rattle.splitting.specs.Searches.{GoodTrail, Writes, Spreads}
 use Rattle.splitting.specs.Blames.{Blamed}

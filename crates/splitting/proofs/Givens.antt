@@ -1,8 +1,9 @@
 -- Assumptions on the trail, one more of them.
-use Rattle.std.proofs.Common.{◌≡◌, ℕ, ◌+◌, ◌-◌, ◌/◌, ◌%◌, ◌<◌, ◌≤◌, List, length, get_or, set, sym, ap, ◌∙◌, subst, inl, inr, arith, below_more}
+use Rattle.std.proofs.Common.{◌≡◌, ℕ, ◌+◌, ◌/◌, ◌%◌, ◌<◌, ◌≤◌, List, length, get_or, set, sym, ap, ◌∙◌, subst, inl, inr, arith, below_more}
 use Rattle.std.proofs.lemmas.List.{get_or-set_same, get_or-set_other, get_or-map, length-map}
 use Rattle.literal.specs.declared.Literal.{Literal}
-use Rattle.splitting.specs.Cells.{Holds, Fails, codes, literal, InTable, Within}
+use Rattle.splitting.specs.Cells.{Holds, Fails, InTable}
+use Rattle.cells.specs.Cells.{codes, literal}
 use Rattle.splitting.specs.Trails.{Kept, Assumed, Contrary, Good, Models, True, Seen, SeenTrue, Follows, Refutes}
 use Rattle.splitting.proofs.Tables.{at_set, listed_at}
 
@@ -83,18 +84,18 @@ contrary_refutes cells seen assumed w m d given =
     w.differ (omega (arith, x, y, e, w.variable))
 
 -- the trail's first places for the assumptions
-pub refutes_trail : (cells seen assumed trail : List ℕ) (n : ℕ) → Assumed assumed trail n (length assumed)
-    → ((m : ℕ → ℕ) → Models cells m → SeenTrue m trail seen n → ⊥) → Refutes cells seen assumed
-refutes_trail cells seen assumed trail n a none m d given =
+pub refutes_trail : (cells seen trail : List ℕ) (ls : List Literal) (n : ℕ) → Assumed (codes ls) trail n (length ls)
+    → ((m : ℕ → ℕ) → Models cells m → SeenTrue m trail seen n → ⊥) → Refutes cells seen (codes ls)
+refutes_trail cells seen trail ls n a none m d given =
     none m d (λ j h s.
     let w = a.only j h in
     let P : ℕ → Type 0 = λ l. True m l in
     let S : ℕ → Type 0 = λ l. Seen seen l in
-    subst P (sym w.1.1) (given w.0 w.1.0 (subst S w.1.1 s)))
+    subst P (sym w.1.1) (given w.0 (omega (arith, w.1.0, length_codes ls)) (subst S w.1.1 s)))
 
-pub holds_assumed : (assumed trail value : List ℕ) (n : ℕ) → Assumed assumed trail n (length assumed)
-    → ((j : ℕ) → j < n → Holds value (get_or trail j 0)) → (k : ℕ) → k < length assumed → Holds value (get_or assumed k 0)
-holds_assumed assumed trail value n a h k b =
+pub holds_assumed : (trail value : List ℕ) (ls : List Literal) (n : ℕ) → Assumed (codes ls) trail n (length ls)
+    → ((j : ℕ) → j < n → Holds value (get_or trail j 0)) → (k : ℕ) → k < length ls → Holds value (get_or (codes ls) k 0)
+holds_assumed trail value ls n a h k b =
     let w = a.each k b in let P : ℕ → Type 0 = λ l. Holds value l in subst P w.1.1 (h w.0 w.1.0)
 
 -- a trail of assumptions alone
@@ -103,6 +104,3 @@ good_assumed cells trail reason n = record { reasons = λ i a b. absurd (omega a
 
 pub follows_none : (cells trail reason seen : List ℕ) (n : ℕ) → Follows cells trail reason seen n n
 follows_none cells trail reason seen n i a b = absurd (omega arith)
-
-pub within_table : (c : List ℕ) (V size : ℕ) → V ≤ size - 1 → Within c V → InTable c size
-within_table c V size h w k b = omega (arith, (w k b).0, (w k b).1)

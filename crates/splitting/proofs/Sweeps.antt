@@ -2,7 +2,8 @@
 use Rattle.std.proofs.Common.{◌≡◌, ℕ, suc, ◌+◌, ◌-◌, ◌*◌, ◌/◌, ◌%◌, ◌<◌, ◌≤◌, Bool, true, false, cond, eqb, ◌⊎◌, List, [], length, get_or, set, Some, None, sym, refl, ap, ◌∙◌, subst, inl, inr, mul-le-mul_right, suc-mul, arith, below_more}
 use Rattle.std.proofs.lemmas.Bool.{cases_eq, eq-eqb, ne_eqb, cond-true, cond-false}
 use Rattle.std.proofs.lemmas.List.{get_or-set_other}
-use Rattle.splitting.specs.Cells.{Holds, Unset, Fails, Met, clauses, Starts, Reads, Whole, InTable, flat}
+use Rattle.splitting.specs.Cells.{Holds, Unset, Fails, Met, Whole, InTable}
+use Rattle.cells.specs.Cells.{clauses, Starts, Reads, flat}
 use Rattle.splitting.specs.States.{Forced}
 use Rattle.splitting.specs.Trails.{Kept, Front, FrontBy, AllMet, Clash}
 use Rattle.splitting.specs.Passes.{Free, Passing, opened, due, pass_end, Ended}
@@ -10,7 +11,7 @@ use Rattle.splitting.specs.declared.propagate.End.{End}
 use Rattle.splitting.specs.declared.propagate.End.TheVariants.{Done, Choose}
 use Rattle.splitting.specs.declared.propagate.Pass.{Pass}
 use Rattle.splitting.specs.declared.propagate.Pass.TheVariants as pass
-use Rattle.splitting.proofs.Steps.{ended}
+use Rattle.cells.proofs.Steps.{ended}
 use Rattle.splitting.proofs.Tables.{holds_push, holds_here, at_set}
 use Rattle.splitting.specs.Searches.{GoodTrail, Writes, Spreads}
 use Rattle.splitting.specs.declared.trail.Trail.{Trail}

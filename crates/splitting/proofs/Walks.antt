@@ -1,8 +1,8 @@
 -- Down the trail from a conflict: what each place leaves of what counts.
-use Rattle.std.proofs.Common.{◌≡◌, ℕ, ◌+◌, ◌-◌, ◌/◌, ◌%◌, ◌<◌, ◌≤◌, Bool, true, false, not, eqb, List, [], length, get_or, set, sym, ap, subst, inl, inr, arith}
+use Rattle.std.proofs.Common.{◌≡◌, ℕ, ◌+◌, ◌/◌, ◌%◌, ◌<◌, ◌≤◌, Bool, true, false, not, eqb, List, [], length, get_or, set, sym, ap, subst, inl, inr, arith}
 use Rattle.std.proofs.lemmas.List.{get_or-set_other}
 use Rattle.std.proofs.lemmas.Bool.{cases_eq, cases_lt, false≢true, ne_eqb}
-use Rattle.splitting.specs.Cells.{clauses}
+use Rattle.cells.specs.Cells.{clauses}
 use Rattle.splitting.specs.Trails.{True, Models, Seen, SeenTrue, OpenTrue, Follows, Denied, Forces, Grows}
 use Rattle.splitting.specs.Blames.{Counts, Blamed, Placed, at_open, at_turned}
 use Rattle.splitting.specs.declared.blame.Blame.{Blame}

@@ -1,7 +1,8 @@
 -- The state of a search: a trail of literals, each with the number of a reason, and a table of the values that they give.
 -- The places below `base` hold the assumptions.
 use Rattle.std.specs.Prelude.{◌≡◌, ℕ, zero, suc, ◌+◌, ◌-◌, ◌*◌, ◌/◌, ◌%◌, ◌^◌, ◌<◌, ◌≤◌, Bool, true, false, ◌||◌, ◌==◌, List, [], ◌∷◌, length, get_or, take, ◌≢◌, slice_index, slice_index_or}
-use Rattle.splitting.specs.Cells.{Holds, Met, clauses, Starts}
+use Rattle.splitting.specs.Cells.{Holds, Met}
+use Rattle.cells.specs.Cells.{clauses, Starts}
 
 -- how many variables have no value
 abbrev pub zeros : List ℕ → ℕ

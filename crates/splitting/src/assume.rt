@@ -1,7 +1,8 @@
 // Assumptions: they stand on the trail's first places.
 
 ghost use Rattle.std.specs.Prelude.{◌≡◌, ℕ, ◌≤◌, true, false, length};
-ghost use Rattle.splitting.specs.Cells.{InTable, codes};
+ghost use Rattle.splitting.specs.Cells.{InTable};
+ghost use Rattle.cells.specs.Cells.{codes};
 ghost use Rattle.splitting.specs.Trails.{Assumed, Contrary};
 
 use crate::reason::Reason;
@@ -16,7 +17,7 @@ impl<'a> Trail<'a> {
         requires table { length seen.old ≡ length self.old.value.now }
         ensures size { length self.new.value.now ≡ length self.old.value.now }
         ensures based { result ≡ true → self.new.base ≡ self.new.count }
-        ensures assumed { result ≡ true → Assumed (codes assumed.now) self.new.literals.now self.new.count (length assumed.now) }
+        ensures assumed { result ≡ true → Assumed (codes assumed.now) self.new.literals.now self.new.base (length assumed.now) }
         ensures contrary { result ≡ false → Contrary (codes assumed.now) seen.new }
     {
         for literal in assumed {

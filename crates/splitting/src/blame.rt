@@ -8,9 +8,9 @@ ghost use Rattle.splitting.specs.Trails.{Follows, Seen, Grows, Clash};
 ghost use Rattle.splitting.specs.Searches.{GoodTrail};
 ghost use Rattle.splitting.specs.Blames.{Blamed, Placed, at_open, at_turned};
 
-use crate::clause::clause_at;
 use crate::reason::Reason;
 use crate::trail::Trail;
+use cells::clause_at;
 
 // Which open decisions count, besides the variables that are seen.
 #[derive(Clone, Copy)]

@@ -1,7 +1,7 @@
-// Clauses in the cells, and how one stands under a table of values.
+// How a clause stands under a table of values.
 
-ghost use Rattle.std.specs.Prelude.{◌≡◌, ℕ, ◌+◌, ◌/◌, ◌%◌, ◌<◌, ◌≤◌, [], length};
-ghost use Rattle.splitting.specs.Cells.{InTable, flat, clauses, At, Starts, Reads};
+ghost use Rattle.std.specs.Prelude.{◌≡◌, ◌/◌, ◌<◌, length};
+ghost use Rattle.splitting.specs.Cells.{InTable};
 ghost use Rattle.splitting.specs.States.{Judged, Standing, Joined};
 
 use crate::trail::Trail;
@@ -31,18 +31,6 @@ impl State {
             State::Open(first) => State::Open(first),
         }
     }
-}
-
-// The clause whose cells begin at `at`.
-pub fn clause_at<'a>(cells: &'a [u32], at: usize) -> &'a [u32]
-    requires coded { flat (clauses cells.now) ≡ cells.now }
-    requires starts { At cells.now at }
-    requires inside { at < length cells.now }
-    ensures value { (j : ℕ) → Starts cells.now at j → Reads cells.now at j result.now }
-    ensures bound { at + 1 + length result.now ≤ length cells.now }
-{
-    let length = cells[at] as usize;
-    &cells[at + 1..at + 1 + length]
 }
 
 impl<'a> Trail<'a> {

@@ -6,9 +6,10 @@ ghost use Rattle.splitting.specs.Trails.{Front};
 ghost use Rattle.splitting.specs.Searches.{GoodTrail, Spreads};
 ghost use Rattle.splitting.specs.Passes.{Ended, opened, pass_end};
 
-use crate::clause::{State, clause_at};
+use crate::clause::State;
 use crate::reason::{LAST_PLACE, Reason};
 use crate::trail::Trail;
+use cells::clause_at;
 
 // What a pass has met so far.
 #[derive(Clone, Copy)]

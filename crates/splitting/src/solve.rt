@@ -1,30 +1,31 @@
-// The question whether the held clauses and some assumptions can be satisfied, over a solver's memory.
+// The question whether the held clauses and some assumptions can be satisfied.
 
 ghost use Rattle.std.specs.Prelude.{◌≡◌, ℕ, ◌<◌, true, false, length, slice_index};
-ghost use Rattle.splitting.specs.Cells.{Within, Holds, codes};
+ghost use Rattle.cells.specs.Cells.{codes};
+ghost use Rattle.cells.specs.Held.{used_cells};
+ghost use Rattle.sat.specs.Faults.{in_range};
+ghost use Rattle.splitting.specs.Cells.{Holds};
 ghost use Rattle.splitting.specs.Trails.{AllMet, Refutes};
-ghost use Rattle.splitting.specs.Held.{used_cells, held, cell_number};
+ghost use Rattle.splitting.specs.Held.{meaning_of};
 
-use crate::memory::Memory;
+use crate::solver::Splitting;
 use literal::Literal;
 
-impl<'a> Memory<'a> {
+impl<'a> Splitting<'a> {
     // Whether some values satisfy every clause and make every assumption true; they are then in the table.
-    pub fn solve(&mut self, assumed: &[Literal]) -> bool
-        requires inside { Within (codes assumed.now) self.old.variables }
-        ensures same { held self.new ≡ held self.old }
-        ensures same_variables { self.new.variables ≡ self.old.variables }
-        ensures same_cells { cell_number self.new ≡ cell_number self.old }
-        ensures met { result ≡ true → AllMet (used_cells self.old) self.new.trail.value.now }
+    pub(crate) fn solve(&mut self, assumed: &[Literal]) -> bool
+        requires { in_range self.old.variables assumed.now ≡ true }
+        ensures same { meaning_of self.new ≡ meaning_of self.old }
+        ensures met { result ≡ true → AllMet (used_cells self.old.cells) self.new.trail.value.now }
         ensures granted { result ≡ true → (k : ℕ) → k < length assumed.now → Holds self.new.trail.value.now (slice_index (codes assumed.now) k) }
-        ensures none { result ≡ false → Refutes (used_cells self.old) self.new.seen.now (codes assumed.now) }
+        ensures none { result ≡ false → Refutes (used_cells self.old.cells) self.new.seen.now (codes assumed.now) }
     {
         self.trail.clear();
         self.seen.fill(0);
         if !self.trail.assume(assumed, self.seen) {
             return false;
         }
-        let cells = &mut *self.cells;
-        self.trail.search(&cells[..self.used], self.seen)
+        let cells = self.cells.used();
+        self.trail.search(cells, self.seen)
     }
 }

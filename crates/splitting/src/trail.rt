@@ -33,11 +33,7 @@ impl<'a> Trail<'a> {
     ghost use Rattle.splitting.specs.Searches.{Writes};
 
     // No literal is true.
-    pub fn new(
-        value: &'a mut [u32],
-        literals: &'a mut [u32],
-        reasons: &'a mut [u32],
-    ) -> Trail<'a>
+    pub fn new(value: &'a mut [u32], literals: &'a mut [u32], reasons: &'a mut [u32]) -> Trail<'a>
         requires room { length value.old ≤ length literals.old }
         requires sizes { length reasons.old ≡ length literals.old }
         ensures { length result.value.now ≡ length value.old }

@@ -1,10 +1,12 @@
 // What a decision writes: values on yes, marks on no.
 
-ghost use Rattle.std.specs.Prelude.{◌≡◌, ◌-◌, ◌<◌, ◌≤◌, length};
-ghost use Rattle.splitting.specs.Cells.{InTable, codes};
+ghost use Rattle.std.specs.Prelude.{◌≡◌, ◌-◌, ◌<◌, ◌≤◌, true, length};
+ghost use Rattle.sat.specs.Faults.{in_range};
+ghost use Rattle.cells.specs.Cells.{codes};
+ghost use Rattle.splitting.specs.Cells.{InTable};
 ghost use Rattle.splitting.specs.Written.{Valued, MarkedBy};
 
-use crate::memory::Memory;
+use crate::solver::Splitting;
 use literal::Literal;
 
 // Writes a byte for each variable, 1 where it is true, and 0 into byte 0.
@@ -25,21 +27,21 @@ fn write_marks(seen: &[u32], assumed: &[Literal], marks: &mut [u8])
     requires room { length assumed.now ≤ length marks.old }
     ensures { MarkedBy seen.now assumed.now marks.old marks.new }
 {
-    for (mark, literal) in marks.iter_mut().zip(assumed) {
-        *mark = u8::from(seen[literal.variable()] != 0);
+    for (k, literal) in assumed.iter().enumerate() {
+        marks[k] = u8::from(seen[literal.variable()] != 0);
     }
 }
 
-impl<'a> Memory<'a> {
-    pub fn write(&self, values: &mut [u8])
+impl<'a> Splitting<'a> {
+    pub(crate) fn write(&self, values: &mut [u8])
         requires { self.now.variables < length values.old }
         ensures { Valued self.now.trail.value.now self.now.variables values.old values.new }
     {
         write_values(self.trail.value, self.variables, values);
     }
 
-    pub fn mark(&self, assumed: &[Literal], marks: &mut [u8])
-        requires inside { InTable (codes assumed.now) (length self.now.seen.now) }
+    pub(crate) fn mark(&self, assumed: &[Literal], marks: &mut [u8])
+        requires inside { in_range self.now.variables assumed.now ≡ true }
         requires room { length assumed.now ≤ length marks.old }
         ensures { MarkedBy self.now.seen.now assumed.now marks.old marks.new }
     {

@@ -1,7 +1,6 @@
-use Rattle.std.proofs.Common.{◌≡◌, ◌/◌, ◌<◌, length, get_or, set, sym, ap, ◌∙◌, arith}
-use Rattle.splitting.specs.Cells.{codes, Fails}
-use Rattle.splitting.specs.Trails.{Contrary}
-use Rattle.splitting.proofs.Givens.{code_is, code_in, length_codes, assumed_none, assumed_push, assumed_again, contrary}
+use Rattle.std.proofs.Common.{◌≡◌, ◌/◌, ◌<◌, length, sym, ap, ◌∙◌, arith}
+use Rattle.cells.specs.Cells.{codes}
+use Rattle.splitting.proofs.Givens.{code_is, code_in, length_codes, assumed_push, assumed_again, contrary}
 use Rattle.splitting.proofs.Entails.{room_of}
 use Rattle.splitting.proofs.trail.Trail.assume.Goals as goal
 use Rattle.splitting.proofs.trail.Trail.assume.Goals.{in-None, in-Some-true}
@@ -35,7 +34,7 @@ loop-literal-preserved c =
     let l = c.from-code.result in
     let e = code_is ls i l c.loop-literal-test.true c.from-code.ensures in
     let inside : l / 2 < length t.value.now =
-        rw c.loop-literal.invariant.size (code_in ls i l (length c.args.self.now.value.now) c.loop-literal-test.true c.from-code.ensures c.requires.inside) in
+    rw c.loop-literal.invariant.size (code_in ls i l (length c.args.self.now.value.now) c.loop-literal-test.true c.from-code.ensures c.requires.inside) in
     elim c.match-truth.branch [
       | in-None w ↦
           (let h = w.push.ensures.place in

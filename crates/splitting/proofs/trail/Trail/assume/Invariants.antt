@@ -1,5 +1,5 @@
 use Rattle.std.proofs.Common.{◌≡◌, length}
-use Rattle.splitting.specs.Cells.{codes}
+use Rattle.cells.specs.Cells.{codes}
 use Rattle.splitting.specs.Trails.{Assumed}
 use Rattle.splitting.proofs.trail.Trail.assume.Given as goal
 

@@ -1,4 +1,4 @@
-use Rattle.std.proofs.Common.{◌≡◌, ◌+◌, ◌*◌, ◌/◌, ◌<◌, length, refl, sym, ap, ◌∙◌, arith}
+use Rattle.std.proofs.Common.{◌≡◌, ◌+◌, ◌*◌, ◌/◌, ◌<◌, length, refl, ap, ◌∙◌, arith}
 use Rattle.std.proofs.lemmas.Bool.{leb-true}
 use Rattle.splitting.specs.Passes.{due}
 use Rattle.splitting.proofs.Sweeps.{front_past, passing_past, due_open, pass_ended, clash_by, front_push, forced_met, in_table, good_forced, spreads_on, sweep_pushed, sweep_on}

@@ -1,5 +1,5 @@
 use Rattle.std.proofs.Common.{◌+◌, ◌-◌, ◌*◌, length}
-use Rattle.splitting.specs.Cells.{At}
+use Rattle.cells.specs.Cells.{At}
 use Rattle.splitting.specs.Trails.{Front, left}
 use Rattle.splitting.specs.Searches.{GoodTrail, Spreads}
 use Rattle.splitting.specs.Passes.{Passing, due}

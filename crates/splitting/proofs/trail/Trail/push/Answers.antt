@@ -1,4 +1,4 @@
-use Rattle.std.proofs.Common.{refl, sym, ap, ◌∙◌, arith}
+use Rattle.std.proofs.Common.{sym, ◌∙◌, arith}
 use Rattle.std.proofs.lemmas.List.{length-set}
 use Rattle.splitting.proofs.Tables.{push_room, kept_push, kept_past}
 use Rattle.splitting.proofs.trail.Trail.push.Goals as goal

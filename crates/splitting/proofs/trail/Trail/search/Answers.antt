@@ -1,5 +1,4 @@
-use Rattle.std.proofs.Common.{◌≡◌, ◌+◌, ◌<◌, ◌≤◌, length, get_or, sym, ap, ◌∙◌, subst, arith}
-use Rattle.splitting.specs.Trails.{FrontBy, Follows}
+use Rattle.std.proofs.Common.{◌∙◌, subst, arith}
 use Rattle.splitting.specs.Reasons.{number_of}
 use Rattle.splitting.specs.Passes.{Ended, Free}
 use Rattle.splitting.specs.declared.propagate.End.{End}

@@ -1,7 +1,7 @@
-use Rattle.std.proofs.Common.{◌≡◌, ℕ, ◌+◌, ◌-◌, ◌/◌, ◌<◌, ◌≤◌, not, eqb, List, length, get_or, set, sym, ◌∙◌, subst, arith}
-use Rattle.splitting.specs.Cells.{Starts}
+use Rattle.std.proofs.Common.{◌≡◌, ℕ, ◌+◌, ◌-◌, ◌/◌, ◌<◌, ◌≤◌, not, eqb, List, length, get_or, set, sym, subst, arith}
+use Rattle.cells.specs.Cells.{Starts}
 use Rattle.splitting.specs.Blames.{Blamed, Placed}
-use Rattle.splitting.specs.Trails.{Seen, Grows}
+use Rattle.splitting.specs.Trails.{Seen}
 use Rattle.splitting.proofs.Walks.{clash_blamed, open_step, turned_step, forced_step, grows_on, grows_then, is_seen}
 use Rattle.splitting.proofs.trail.Trail.trace.Goals as goal
 use Rattle.splitting.proofs.trail.Trail.trace.Goals.{in-Open, in-Turned, in-Forced, in-Forced+else-is_seen}
@@ -39,7 +39,7 @@ loop-i-preserved c =
     let apart : (j : ℕ) → j < p → get_or trail j 0 / 2 ≡ get_or trail p 0 / 2 → ⊥ = λ j h. t.kept.apart j p h hi in
     let stays : (v : ℕ) → 1 ≤ get_or seen v 0 → 1 ≤ get_or seen v 0 = λ v h. h in
     let more = λ (mid : List ℕ) (g : (v : ℕ) → 1 ≤ get_or seen v 0 → 1 ≤ get_or mid v 0).
-        grows_then trail c.args.seen.now seen (set mid (get_or trail p 0 / 2) 0) base c.loop-i.invariant.grows (grows_on trail seen mid base p lo apart g) in
+    grows_then trail c.args.seen.now seen (set mid (get_or trail p 0 / 2) 0) base c.loop-i.invariant.grows (grows_on trail seen mid base p lo apart g) in
     let x = get_or seen (get_or trail p 0 / 2) 0 in
     elim c.match-from.branch [
       | in-Open w ↦

@@ -1,4 +1,4 @@
-use Rattle.std.proofs.Common.{◌≡◌, ℕ, ◌-◌, sym, subst, arith}
+use Rattle.std.proofs.Common.{ℕ, subst, arith}
 use Rattle.splitting.specs.Trails.{Kept}
 use Rattle.splitting.proofs.Tables.{kept_down}
 use Rattle.splitting.proofs.trail.Trail.undo.Goals as goal
