@@ -1,27 +1,11 @@
 -- Clauses taken from entries one after another.
-use Rattle.std.proofs.Common.{◌≡◌, ℕ, ◌+◌, ◌<◌, List, [], ◌∷◌, ◌++◌, length, get_or, take, drop, sym, refl, ap, ◌∙◌, arith}
-use Rattle.std.proofs.lemmas.List.{append_assoc, append-nil, length-append, length_push, drop_more, length-drop, take-append-drop, nil_from_length}
+use Rattle.std.proofs.Common.{◌≡◌, ℕ, ◌+◌, List, [], ◌∷◌, ◌++◌, length, sym, refl, ap, ◌∙◌, arith}
+use Rattle.std.proofs.lemmas.List.{append_assoc, append-nil, length-append, length_push, nil_from_length}
 use Rattle.literal.specs.declared.Literal.{Literal}
 use Rattle.sat.specs.Clauses.{Clause}
 use Rattle.dimacs_text.specs.Entries.{end, terminated}
 use Rattle.dimacs_text.specs.Loads.{Loading}
 use Rattle.dimacs_text.specs.Texts.{Loaded, Miscounted}
-
-by_code : ℕ → Literal
-by_code n = record { code = n }
-
-same_code : (l : Literal) → l.code ≡ 0 → l ≡ end
-unfolding by_code
-same_code l e = ap by_code e
-
-pub clause_at : (xs front rest back : List Literal) (i : ℕ) → i < length xs → (get_or xs i end).code ≡ 0 → front ≡ take i xs → rest ≡ drop i xs → back ≡ drop 1 rest
-    → (xs ≡ front ++ end ∷ back) × (length back < length xs)
-clause_at xs front rest back i h z f r b =
-    let d : drop i xs ≡ end ∷ drop (i + 1) xs = drop_more xs i end h ∙ ap (λ (l : Literal). l ∷ drop (i + 1) xs) (same_code (get_or xs i end) z) in
-    let e : back ≡ drop (i + 1) xs = b ∙ ap (drop 1) (r ∙ d) in (
-      sym (take-append-drop i xs) ∙ ap (λ (x : List Literal). x ++ drop i xs) (sym f) ∙ ap (λ (x : List Literal). front ++ x) (d ∙ ap (λ (x : List Literal). end ∷ x) (sym e)),
-      omega (arith, ap length e, length-drop (i + 1) xs),
-    )
 
 terminated_push : (cs : List Clause) (c : Clause) → terminated (cs ++ c ∷ []) ≡ terminated cs ++ (c ++ end ∷ [])
 terminated_push [] c = refl

@@ -12,14 +12,8 @@ use sat::Solver;
 fn clause<'a>(entries: &'a [Literal]) -> Option<(&'a [Literal], &'a [Literal])>
     ensures { MatchOption result (Endless entries.now) (λ p. (entries.now ≡ p.0.now ++ end ∷ p.1.now) × (length p.1.now < length entries.now)) }
 {
-    for (i, entry) in entries.iter().enumerate() {
-        if entry.code == 0 {
-            let (clause, rest) = entries.split_at(i);
-            let (_, after) = rest.split_at(1);
-            return Some((clause, after));
-        }
-    }
-    None
+    let place = entries.iter().position(|entry| entry.code == 0)?;
+    Some((&entries[..place], &entries[place + 1..]))
 }
 
 // Holds the clauses of the entries, as many as were promised.
@@ -29,6 +23,7 @@ pub fn load<S: Solver>(entries: &[Literal], count: usize, solver: &mut S) -> Res
     ensures same_cells { S.Solver.cell_count solver.new ≡ S.Solver.cell_count solver.old }
 {
     let mut rest = entries;
+    // Each turn may refuse its clause and leave, so the turns are counted here.
     let mut held = 0;
     while let Some((first, after)) = clause(rest) {
         solver.hold(first)?;
