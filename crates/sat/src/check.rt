@@ -14,13 +14,10 @@ pub const MAX_LITERALS: usize = 64;
 fn in_range(literals: &[Literal], variables: usize) -> bool
     ensures { result ≡ in_range variables literals.now }
 {
-    for literal in literals {
+    literals.iter().all(|literal| {
         let variable = literal.variable();
-        if variable == 0 || variable > variables {
-            return false;
-        }
-    }
-    true
+        variable != 0 && variable <= variables
+    })
 }
 
 fn check_literals(literals: &[Literal], variables: usize) -> Result<(), SolverFault>
