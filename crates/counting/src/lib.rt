@@ -2,10 +2,8 @@
 #![tactic(auto)]
 
 mod answer;
-mod cells;
 mod narrow;
 mod search;
 pub mod solver;
-mod table;
 
 pub use solver::{Counting, MAX_VARIABLES, check};

@@ -4,12 +4,12 @@ ghost use Rattle.std.specs.Prelude.{◌≡◌, ℕ, ◌<◌, ◌≤◌, true, le
 ghost use Rattle.sat.specs.Answers.{Narrowed};
 ghost use Rattle.sat.specs.Clauses.{Unsatisfiable, marked};
 ghost use Rattle.sat.specs.Faults.{in_range};
-ghost use Rattle.counting.specs.Held.{held};
+ghost use Rattle.cells.specs.Held.{held};
 
 use crate::search::solve;
 use crate::solver::Counting;
 use literal::Literal;
-use sat::Picked;
+use sat::Literals;
 
 // From marks on every assumption.
 pub fn narrow_marks(solver: &Counting, assumed: &[Literal], first: usize, marks: &mut [u8])
@@ -18,12 +18,12 @@ pub fn narrow_marks(solver: &Counting, assumed: &[Literal], first: usize, marks:
     requires first { first ≤ length assumed.now }
     requires room { length assumed.now ≤ length marks.old }
     requires all { (k : ℕ) → k < length assumed.now → slice_index marks.old k ≡ 1 }
-    requires none { Unsatisfiable (held solver.now.table) (marked assumed.now marks.old) }
-    ensures { Narrowed (held solver.now.table) assumed.now first marks.old marks.new }
+    requires none { Unsatisfiable (held solver.now.cells) (marked assumed.now marks.old) }
+    ensures { Narrowed (held solver.now.cells) assumed.now first marks.old marks.new }
 {
     for i in first..assumed.len() {
         marks[i] = 0;
-        let picked = Picked::marked(assumed, marks);
+        let picked = Literals::marked(assumed, marks);
         if solve(solver, picked.as_slice()).is_some() {
             marks[i] = 1;
         }

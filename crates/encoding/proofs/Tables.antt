@@ -1,6 +1,6 @@
 -- Tables of literals as loops fill them: what stands there, and what is left to put.
 use Rattle.std.proofs.Common.{◌≡◌, ℕ, ◌+◌, ◌/◌, ◌%◌, ◌<◌, ◌≤◌, Bool, true, false, cond, List, [], ◌∷◌, ◌++◌, map, length, get_or, take, drop, sym, ap, ◌∙◌, arith}
-use Rattle.std.proofs.lemmas.List.{append_assoc, append-nil, take_all, length-take, length-append, length-map, at_drop_more}
+use Rattle.std.proofs.lemmas.List.{append_assoc, append-nil, take_all, length-append, length-map, at_drop_more}
 use Rattle.std.proofs.lemmas.Bool.{eq-eqb, ne_eqb}
 use Rattle.literal.specs.declared.Literal.{Literal}
 use Rattle.circuit.specs.declared.record.Input.{Input}
@@ -9,10 +9,8 @@ use Rattle.circuit.specs.Settled.{same_side, of_side}
 use Rattle.circuit.specs.Step.{low_bit}
 use Rattle.literal.specs.Truth.{negation_of}
 use Rattle.sat.proofs.Loops.{take_push}
-use Rattle.encoding.specs.declared.table.Literals.{Literals}
 use Rattle.encoding.specs.Literals.{signed, cared}
 use Rattle.encoding.specs.Clauses.{not_all}
-use Rattle.encoding.specs.Tables.{literals_in}
 use Rattle.encoding.proofs.Sizes.{cared_length}
 
 -- one more is put
@@ -27,15 +25,9 @@ pub put_none : (here rest left all : List Literal) → left ≡ rest → take 64
 put_none here rest left all l h = ap (λ t. take 64 (here ++ t)) (sym l) ∙ h
 
 -- at the end nothing is left
-pub put_all : (t : Literals) (left all : List Literal) → left ≡ [] → take 64 (literals_in t ++ left) ≡ all → literals_in t ≡ all
-put_all t left all l h =
-    sym (ap (λ x. take 64 (literals_in t ++ x)) l ∙ ap (take 64) (append-nil (literals_in t))
-    ∙ take_all 64 (literals_in t) (omega (arith, length-take t.count t.literals, t.few)))
-    ∙ h
-
--- a table holds at most 64
-pub table_short : (t : Literals) → length (literals_in t) ≤ 64
-table_short t = omega (arith, length-take t.count t.literals, t.few)
+pub put_all : (here left all : List Literal) → length here ≤ 64 → left ≡ [] → take 64 (here ++ left) ≡ all → here ≡ all
+put_all here left all few l h =
+    sym (ap (λ x. take 64 (here ++ x)) l ∙ ap (take 64) (append-nil here) ∙ take_all 64 here few) ∙ h
 
 -- an input that is on the side, and one that is not
 module _ (t : Side) (is : List Input) (i : ℕ) (d : Input) (h : i < length is) where

@@ -16,14 +16,14 @@ use sat::{Solver, SolverFault};
 
 // Holds that the step is one of the model's, and that it is not bad.
 pub fn hold_answer_base<S: Solver>(model: &Model<'_>, solver: &mut S) -> Result<(), SolverFault>
-    ensures held { Held (S.Solver.variable_count solver.old) (S.Solver.cell_count solver.old) (S.Solver.clauses solver.old) (answer_base model.now.«record».now model.now.gates.now) (S.Solver.variable_count solver.new) (S.Solver.cell_count solver.new) (S.Solver.clauses solver.new) (result_err result) }
-    ensures whole { Whole (answer_variables model.now.«record».now) (answer_base_cells model.now.«record».now) (S.Solver.variable_count solver.old) (S.Solver.cell_count solver.old) (S.Solver.clauses solver.old) (answer_base model.now.«record».now model.now.gates.now) (S.Solver.clauses solver.new) (is_ok result) }
+    ensures held { Held (S.Solver.meaning solver.old) (answer_base model.now.«record».now model.now.gates.now) (S.Solver.meaning solver.new) (result_err result) }
+    ensures whole { Whole (answer_variables model.now.«record».now) (answer_base_cells model.now.«record».now) (S.Solver.meaning solver.old) (answer_base model.now.«record».now model.now.gates.now) (S.Solver.meaning solver.new) (is_ok result) }
 {
     put_base(model, solver)
 }
 
 fn put_base<S: Solver>(model: &Model<'_>, solver: &mut S) -> Result<(), SolverFault>
-    ensures { Held (S.Solver.variable_count solver.old) (S.Solver.cell_count solver.old) (S.Solver.clauses solver.old) (answer_base model.now.«record».now model.now.gates.now) (S.Solver.variable_count solver.new) (S.Solver.cell_count solver.new) (S.Solver.clauses solver.new) (result_err result) }
+    ensures { Held (S.Solver.meaning solver.old) (answer_base model.now.«record».now model.now.gates.now) (S.Solver.meaning solver.new) (result_err result) }
 {
     hold_step(solver, model)?;
     let output = clause_literal(maximum_of(model), model.output());
@@ -36,14 +36,14 @@ pub fn hold_answer_row<S: Solver>(
     solver: &mut S,
     row: Row,
 ) -> Result<(), SolverFault>
-    ensures held { Held (S.Solver.variable_count solver.old) (S.Solver.cell_count solver.old) (S.Solver.clauses solver.old) (answer_row model.now.«record».now row ∷ []) (S.Solver.variable_count solver.new) (S.Solver.cell_count solver.new) (S.Solver.clauses solver.new) (result_err result) }
-    ensures whole { Whole (answer_variables model.now.«record».now) (answer_row_cells model.now.«record».now) (S.Solver.variable_count solver.old) (S.Solver.cell_count solver.old) (S.Solver.clauses solver.old) (answer_row model.now.«record».now row ∷ []) (S.Solver.clauses solver.new) (is_ok result) }
+    ensures held { Held (S.Solver.meaning solver.old) (answer_row model.now.«record».now row ∷ []) (S.Solver.meaning solver.new) (result_err result) }
+    ensures whole { Whole (answer_variables model.now.«record».now) (answer_row_cells model.now.«record».now) (S.Solver.meaning solver.old) (answer_row model.now.«record».now row ∷ []) (S.Solver.meaning solver.new) (is_ok result) }
 {
     put_row(model, solver, row)
 }
 
 fn put_row<S: Solver>(model: &Model<'_>, solver: &mut S, row: Row) -> Result<(), SolverFault>
-    ensures { Held (S.Solver.variable_count solver.old) (S.Solver.cell_count solver.old) (S.Solver.clauses solver.old) (answer_row model.now.«record».now row ∷ []) (S.Solver.variable_count solver.new) (S.Solver.cell_count solver.new) (S.Solver.clauses solver.new) (result_err result) }
+    ensures { Held (S.Solver.meaning solver.old) (answer_row model.now.«record».now row ∷ []) (S.Solver.meaning solver.new) (result_err result) }
 {
     let next = next_of(model);
     let clause = outside(next.as_slice(), row.care, row.value);

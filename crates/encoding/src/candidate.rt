@@ -12,23 +12,22 @@ use crate::clause_literal::{
 use crate::gates::hold_step;
 use crate::hold::hold_clause;
 use crate::model_literals::{inputs_of, latches_of, next_of, outside};
-use crate::picked::negations;
-use crate::table::Literals;
+use crate::picked::{negations, push_cared};
 use circuit::{Model, Side};
 use game::{Exception, Row};
 use literal::Literal;
-use sat::{Solver, SolverFault};
+use sat::{Literals, Solver, SolverFault};
 
 // Holds that the step is one of the model's, and that it is bad where that is what is due.
 pub fn hold_candidate_base<S: Solver>(model: &Model<'_>, solver: &mut S) -> Result<(), SolverFault>
-    ensures held { Held (S.Solver.variable_count solver.old) (S.Solver.cell_count solver.old) (S.Solver.clauses solver.old) (candidate_base model.now.«record».now model.now.gates.now) (S.Solver.variable_count solver.new) (S.Solver.cell_count solver.new) (S.Solver.clauses solver.new) (result_err result) }
-    ensures whole { Whole (candidate_variables model.now.«record».now 0) (candidate_base_cells model.now.«record».now) (S.Solver.variable_count solver.old) (S.Solver.cell_count solver.old) (S.Solver.clauses solver.old) (candidate_base model.now.«record».now model.now.gates.now) (S.Solver.clauses solver.new) (is_ok result) }
+    ensures held { Held (S.Solver.meaning solver.old) (candidate_base model.now.«record».now model.now.gates.now) (S.Solver.meaning solver.new) (result_err result) }
+    ensures whole { Whole (candidate_variables model.now.«record».now 0) (candidate_base_cells model.now.«record».now) (S.Solver.meaning solver.old) (candidate_base model.now.«record».now model.now.gates.now) (S.Solver.meaning solver.new) (is_ok result) }
 {
     put_base(model, solver)
 }
 
 fn put_base<S: Solver>(model: &Model<'_>, solver: &mut S) -> Result<(), SolverFault>
-    ensures { Held (S.Solver.variable_count solver.old) (S.Solver.cell_count solver.old) (S.Solver.clauses solver.old) (candidate_base model.now.«record».now model.now.gates.now) (S.Solver.variable_count solver.new) (S.Solver.cell_count solver.new) (S.Solver.clauses solver.new) (result_err result) }
+    ensures { Held (S.Solver.meaning solver.old) (candidate_base model.now.«record».now model.now.gates.now) (S.Solver.meaning solver.new) (result_err result) }
 {
     hold_step(solver, model)?;
     let maximum = maximum_of(model);
@@ -45,8 +44,8 @@ pub fn hold_candidate_row<S: Solver>(
     row: Row,
     place: usize,
 ) -> Result<(), SolverFault>
-    ensures held { place < 1024 → Held (S.Solver.variable_count solver.old) (S.Solver.cell_count solver.old) (S.Solver.clauses solver.old) (candidate_row model.now.«record».now row place) (S.Solver.variable_count solver.new) (S.Solver.cell_count solver.new) (S.Solver.clauses solver.new) (result_err result) }
-    ensures whole { place < 1024 → Whole (candidate_variables model.now.«record».now (place + 1)) (candidate_row_cells model.now.«record».now) (S.Solver.variable_count solver.old) (S.Solver.cell_count solver.old) (S.Solver.clauses solver.old) (candidate_row model.now.«record».now row place) (S.Solver.clauses solver.new) (is_ok result) }
+    ensures held { place < 1024 → Held (S.Solver.meaning solver.old) (candidate_row model.now.«record».now row place) (S.Solver.meaning solver.new) (result_err result) }
+    ensures whole { place < 1024 → Whole (candidate_variables model.now.«record».now (place + 1)) (candidate_row_cells model.now.«record».now) (S.Solver.meaning solver.old) (candidate_row model.now.«record».now row place) (S.Solver.meaning solver.new) (is_ok result) }
     ensures beyond { 1024 ≤ place → (result_err result ≡ Some SolverFault.VariableOutOfRange) × (solver.new ≡ solver.old) }
 {
     if place < MAX_PLACES {
@@ -63,7 +62,7 @@ fn put_row<S: Solver>(
     place: usize,
 ) -> Result<(), SolverFault>
     requires { place < 1024 }
-    ensures { Held (S.Solver.variable_count solver.old) (S.Solver.cell_count solver.old) (S.Solver.clauses solver.old) (candidate_row model.now.«record».now row place) (S.Solver.variable_count solver.new) (S.Solver.cell_count solver.new) (S.Solver.clauses solver.new) (result_err result) }
+    ensures { Held (S.Solver.meaning solver.old) (candidate_row model.now.«record».now row place) (S.Solver.meaning solver.new) (result_err result) }
 {
     hold_outside(model, solver, row)?;
     hold_entries(model, solver, row, place)?;
@@ -71,7 +70,7 @@ fn put_row<S: Solver>(
 }
 
 fn hold_outside<S: Solver>(model: &Model<'_>, solver: &mut S, row: Row) -> Result<(), SolverFault>
-    ensures { Held (S.Solver.variable_count solver.old) (S.Solver.cell_count solver.old) (S.Solver.clauses solver.old) (outside_clause model.now.«record».now row ∷ []) (S.Solver.variable_count solver.new) (S.Solver.cell_count solver.new) (S.Solver.clauses solver.new) (result_err result) }
+    ensures { Held (S.Solver.meaning solver.old) (outside_clause model.now.«record».now row ∷ []) (S.Solver.meaning solver.new) (result_err result) }
 {
     let latches = latches_of(model);
     let clause = outside(latches.as_slice(), row.care, row.value);
@@ -85,11 +84,11 @@ fn hold_entries<S: Solver>(
     place: usize,
 ) -> Result<(), SolverFault>
     requires { place < 1024 }
-    ensures { Held (S.Solver.variable_count solver.old) (S.Solver.cell_count solver.old) (S.Solver.clauses solver.old) (entry_clauses model.now.«record».now row place) (S.Solver.variable_count solver.new) (S.Solver.cell_count solver.new) (S.Solver.clauses solver.new) (result_err result) }
+    ensures { Held (S.Solver.meaning solver.old) (entry_clauses model.now.«record».now row place) (S.Solver.meaning solver.new) (result_err result) }
 {
     let next = next_of(model);
     let mut inside = Literals::none();
-    inside.push_cared(next.as_slice(), row.care, row.value);
+    push_cared(&mut inside, next.as_slice(), row.care, row.value);
     let entry = positive_of(entry_variable(maximum_of(model), place));
     hold_each(solver, entry, inside.as_slice())
 }
@@ -100,7 +99,7 @@ fn hold_each<S: Solver>(
     guard: Literal,
     literals: &[Literal],
 ) -> Result<(), SolverFault>
-    ensures { Held (S.Solver.variable_count solver.old) (S.Solver.cell_count solver.old) (S.Solver.clauses solver.old) (map (implies guard) literals.now) (S.Solver.variable_count solver.new) (S.Solver.cell_count solver.new) (S.Solver.clauses solver.new) (result_err result) }
+    ensures { Held (S.Solver.meaning solver.old) (map (implies guard) literals.now) (S.Solver.meaning solver.new) (result_err result) }
 {
     for literal in literals {
         hold_clause(solver, &[guard.negation(), *literal])?;
@@ -114,7 +113,7 @@ fn hold_choice<S: Solver>(
     place: usize,
 ) -> Result<(), SolverFault>
     requires { place < 1024 }
-    ensures { Held (S.Solver.variable_count solver.old) (S.Solver.cell_count solver.old) (S.Solver.clauses solver.old) (choice_clause model.now.«record».now place ∷ []) (S.Solver.variable_count solver.new) (S.Solver.cell_count solver.new) (S.Solver.clauses solver.new) (result_err result) }
+    ensures { Held (S.Solver.meaning solver.old) (choice_clause model.now.«record».now place ∷ []) (S.Solver.meaning solver.new) (result_err result) }
 {
     let maximum = maximum_of(model);
     let after = negative_of(due_variable(maximum, place + 1));
@@ -129,8 +128,8 @@ pub fn hold_exception<S: Solver>(
     solver: &mut S,
     exception: Exception,
 ) -> Result<(), SolverFault>
-    ensures held { Held (S.Solver.variable_count solver.old) (S.Solver.cell_count solver.old) (S.Solver.clauses solver.old) (exception_clause model.now.«record».now exception ∷ []) (S.Solver.variable_count solver.new) (S.Solver.cell_count solver.new) (S.Solver.clauses solver.new) (result_err result) }
-    ensures whole { Whole (candidate_variables model.now.«record».now 0) (exception_cells model.now.«record».now) (S.Solver.variable_count solver.old) (S.Solver.cell_count solver.old) (S.Solver.clauses solver.old) (exception_clause model.now.«record».now exception ∷ []) (S.Solver.clauses solver.new) (is_ok result) }
+    ensures held { Held (S.Solver.meaning solver.old) (exception_clause model.now.«record».now exception ∷ []) (S.Solver.meaning solver.new) (result_err result) }
+    ensures whole { Whole (candidate_variables model.now.«record».now 0) (exception_cells model.now.«record».now) (S.Solver.meaning solver.old) (exception_clause model.now.«record».now exception ∷ []) (S.Solver.meaning solver.new) (is_ok result) }
 {
     put_exception(model, solver, exception)
 }
@@ -140,17 +139,19 @@ fn put_exception<S: Solver>(
     solver: &mut S,
     exception: Exception,
 ) -> Result<(), SolverFault>
-    ensures { Held (S.Solver.variable_count solver.old) (S.Solver.cell_count solver.old) (S.Solver.clauses solver.old) (exception_clause model.now.«record».now exception ∷ []) (S.Solver.variable_count solver.new) (S.Solver.cell_count solver.new) (S.Solver.clauses solver.new) (result_err result) }
+    ensures { Held (S.Solver.meaning solver.old) (exception_clause model.now.«record».now exception ∷ []) (S.Solver.meaning solver.new) (result_err result) }
 {
     let latches = latches_of(model);
     let events = inputs_of(model, Side::Event);
     let mut inside = Literals::none();
-    inside.push_cared(
+    push_cared(
+        &mut inside,
         latches.as_slice(),
         exception.state_care,
         exception.state_value,
     );
-    inside.push_cared(
+    push_cared(
+        &mut inside,
         events.as_slice(),
         exception.event_care,
         exception.event_value,

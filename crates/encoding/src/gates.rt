@@ -13,7 +13,7 @@ use sat::{Solver, SolverFault};
 
 fn hold_gate<S: Solver>(solver: &mut S, maximum: u16, gate: Gate) -> Result<(), SolverFault>
     requires { maximum ≤ 4096 }
-    ensures { Held (S.Solver.variable_count solver.old) (S.Solver.cell_count solver.old) (S.Solver.clauses solver.old) (gate_clauses maximum gate) (S.Solver.variable_count solver.new) (S.Solver.cell_count solver.new) (S.Solver.clauses solver.new) (result_err result) }
+    ensures { Held (S.Solver.meaning solver.old) (gate_clauses maximum gate) (S.Solver.meaning solver.new) (result_err result) }
 {
     let output = clause_literal(maximum, gate.output);
     let left = clause_literal(maximum, gate.left);
@@ -25,7 +25,7 @@ fn hold_gate<S: Solver>(solver: &mut S, maximum: u16, gate: Gate) -> Result<(), 
 
 fn hold_gates<S: Solver>(solver: &mut S, maximum: u16, gates: &[Gate]) -> Result<(), SolverFault>
     requires { maximum ≤ 4096 }
-    ensures { Held (S.Solver.variable_count solver.old) (S.Solver.cell_count solver.old) (S.Solver.clauses solver.old) (flat_map (gate_clauses maximum) gates.now) (S.Solver.variable_count solver.new) (S.Solver.cell_count solver.new) (S.Solver.clauses solver.new) (result_err result) }
+    ensures { Held (S.Solver.meaning solver.old) (flat_map (gate_clauses maximum) gates.now) (S.Solver.meaning solver.new) (result_err result) }
 {
     for gate in gates {
         hold_gate(solver, maximum, *gate)?;
@@ -34,7 +34,7 @@ fn hold_gates<S: Solver>(solver: &mut S, maximum: u16, gates: &[Gate]) -> Result
 }
 
 pub fn hold_step<S: Solver>(solver: &mut S, model: &Model<'_>) -> Result<(), SolverFault>
-    ensures { Held (S.Solver.variable_count solver.old) (S.Solver.cell_count solver.old) (S.Solver.clauses solver.old) (step_clauses model.now.«record».now model.now.gates.now) (S.Solver.variable_count solver.new) (S.Solver.cell_count solver.new) (S.Solver.clauses solver.new) (result_err result) }
+    ensures { Held (S.Solver.meaning solver.old) (step_clauses model.now.«record».now model.now.gates.now) (S.Solver.meaning solver.new) (result_err result) }
 {
     let maximum = maximum_of(model);
     hold_gates(solver, maximum, model.used_gates())?;

@@ -8,7 +8,7 @@ use literal::Literal;
 use sat::{Solver, SolverFault};
 
 pub fn hold_clause<S: Solver>(solver: &mut S, clause: &[Literal]) -> Result<(), SolverFault>
-    ensures { Held (S.Solver.variable_count solver.old) (S.Solver.cell_count solver.old) (S.Solver.clauses solver.old) (clause.now ∷ []) (S.Solver.variable_count solver.new) (S.Solver.cell_count solver.new) (S.Solver.clauses solver.new) (result_err result) }
+    ensures { Held (S.Solver.meaning solver.old) (clause.now ∷ []) (S.Solver.meaning solver.new) (result_err result) }
 {
     solver.hold(clause)
 }

@@ -9,15 +9,12 @@ mod clause_literal;
 mod gates;
 mod hold;
 pub mod laws;
-pub mod literals;
 mod model_literals;
 pub mod numbers;
 mod picked;
-pub mod table;
 
 pub use answer::{hold_answer_base, hold_answer_row};
-pub use assumptions::due_literal;
+pub use assumptions::{due_literal, push_answer, push_event, push_state};
 pub use candidate::{hold_candidate_base, hold_candidate_row, hold_exception};
 pub use care::care_of;
 pub use numbers::{answer_in, event_in, state_in};
-pub use table::Literals;

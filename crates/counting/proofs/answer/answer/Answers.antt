@@ -1,6 +1,6 @@
 use Rattle.std.proofs.Common.{◌≡◌, ℕ, ◌+◌, length, drop, refl, subst, arith}
 use Rattle.sat.specs.declared.answer.Answer.TheVariants.{Yes}
-use Rattle.counting.specs.Held.{held}
+use Rattle.cells.specs.Held.{held}
 use Rattle.sat.proofs.Narrowing.{refuted_all, front_at}
 use Rattle.counting.proofs.Written.{written_solves}
 use Rattle.sat.proofs.Decisions.{yes_is_not_no}
@@ -13,10 +13,10 @@ returns-in-Some c =
     let P : ℕ → Type 0 = λ n. drop (n + 1) c.write_values.new.values ≡ drop (n + 1) c.args.values.now in
     record {
       cases = (
-        written_solves s.variables (held s.table) c.args.assumed.now c.in-Some.table c.args.values.now c.write_values.new.values
+        written_solves s.variables (held s.cells) c.args.assumed.now c.in-Some.table c.args.values.now c.write_values.new.values
             s.ranged c.requires.ranged t.0 t.1 c.write_values.ensures.zero
-            (λ k p l. c.write_values.ensures.value k p (omega (arith, c.largest.ensures)))
-            (subst P c.largest.ensures c.write_values.ensures.rest),
+            (λ k p l. c.write_values.ensures.value k p (omega (arith, c.variables.ensures)))
+            (subst P c.variables.ensures c.write_values.ensures.rest),
         refl,
       );
       all = λ e. yes_is_not_no Yes refl e;
@@ -26,7 +26,7 @@ pub returns-in-None : goal.returns-in-None
 returns-in-None c =
     record {
       cases = (
-        refuted_all (held c.args.solver.now.table) c.args.assumed.now c.args.marks.now c.fill_front.new.bytes
+        refuted_all (held c.args.solver.now.cells) c.args.assumed.now c.args.marks.now c.fill_front.new.bytes
             c.requires.marks_room c.fill_front.ensures c.in-None.ensures,
         refl,
       );

@@ -11,7 +11,7 @@ unfolding answer_base
 returns-in_err-hold_step g c =
     let p = err_from_is_err_and c.from_residual.result c.from_residual.ensures.1 in
     rw (p.1, p.2)
-    (stop_is _ _ _ _ (step_clauses c.args.model.now.«record».now c.args.model.now.gates.now) (good_clause c.args.model.now.«record».now ∷ []) _ _ _ _ refl c.in_err-hold_step.ensures)
+    (stop_is (good_clause c.args.model.now.«record».now ∷ []) refl c.in_err-hold_step.ensures)
 
 pub returns : goal.returns
 unfolding answer_base
@@ -20,4 +20,4 @@ returns g c =
     let e : step ++ (c.negation.result ∷ []) ∷ [] ≡ answer_base c.args.model.now.«record».now c.args.model.now.gates.now =
     ap (λ l. step ++ (l ∷ []) ∷ []) (c.negation.ensures.value ∙ ap negation_of (c.clause_literal-output.ensures
     ∙ ap (λ n. clause_literal n c.output.result) c.maximum_of.ensures.value ∙ ap (clause_literal c.args.model.now.«record».now.maximum) c.output.ensures)) in
-    then_is _ _ _ _ step _ _ _ ((c.negation.result ∷ []) ∷ []) _ _ _ _ e c.in_ok-hold_step.ensures c.hold_clause.ensures
+    then_is e c.in_ok-hold_step.ensures c.hold_clause.ensures

@@ -9,6 +9,6 @@ unfolding answer_row
 returns g c =
     let row = c.args.row in
     let e : c.as_slice-2.result.now ∷ [] ≡ answer_row c.args.model.now.«record».now row ∷ [] =
-    ap (λ t. t ∷ []) (c.as_slice-2.ensures ∙ c.outside-clause.ensures
-    ∙ ap (λ t. not_all (cared t row.care row.value)) (c.as_slice.ensures ∙ c.next_of-next.ensures.value)) in
-    held_is _ _ _ _ _ _ _ _ _ e c.hold_clause.ensures
+    ap (λ t. t ∷ []) (c.as_slice-2.ensures.value ∙ c.outside-clause.ensures
+    ∙ ap (λ t. not_all (cared t row.care row.value)) (c.as_slice.ensures.value ∙ c.next_of-next.ensures.value)) in
+    held_is e c.hold_clause.ensures

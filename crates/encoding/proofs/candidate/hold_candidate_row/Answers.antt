@@ -6,7 +6,7 @@ use Rattle.encoding.proofs.candidate.hold_candidate_row.Goals as goal
 pub returns-then-place-lt-MAX_PLACES : goal.returns-then-place-lt-MAX_PLACES
 returns-then-place-lt-MAX_PLACES g c = record {
   held = λ _. c.put_row.ensures;
-  whole = λ _ wide room. whole_from _ _ _ _ _ _ _ c.put_row.result _ c.put_row.ensures
+  whole = λ _ wide room. whole_from c.put_row.result _ c.put_row.ensures
       (candidate_row_fits c.args.model.now.«record».now c.args.model.now.gates.now c.args.model.now.fit _ (omega arith) c.args.place (omega arith) c.args.row) room;
   beyond = λ k. absurd (omega arith);
 }

@@ -6,5 +6,5 @@ use Rattle.encoding.proofs.candidate.hold_exception.Goals as goal
 pub returns : goal.returns
 returns g c = record {
   held = c.put_exception.ensures;
-  whole = λ wide room. whole_from _ _ _ _ _ _ _ c.put_exception.result _ c.put_exception.ensures ((candidate_fits c.args.model.now.«record».now c.args.model.now.gates.now c.args.model.now.fit _ (omega arith) 0 wide).exception c.args.exception) room;
+  whole = λ wide room. whole_from c.put_exception.result _ c.put_exception.ensures ((candidate_fits c.args.model.now.«record».now c.args.model.now.gates.now c.args.model.now.fit _ (omega arith) 0 wide).exception c.args.exception) room;
 }

@@ -8,6 +8,6 @@ pub returns : goal.returns
 returns g c =
     let row = c.args.row in
     let e : c.as_slice-2.result.now ∷ [] ≡ outside_clause c.args.model.now.«record».now row ∷ [] =
-    ap (λ t. t ∷ []) (c.as_slice-2.ensures ∙ c.outside-clause.ensures
-    ∙ ap (λ t. not_all (cared t row.care row.value)) (c.as_slice.ensures ∙ c.latches_of-latches.ensures.value)) in
-    held_is _ _ _ _ _ _ _ _ _ e c.hold_clause.ensures
+    ap (λ t. t ∷ []) (c.as_slice-2.ensures.value ∙ c.outside-clause.ensures
+    ∙ ap (λ t. not_all (cared t row.care row.value)) (c.as_slice.ensures.value ∙ c.latches_of-latches.ensures.value)) in
+    held_is e c.hold_clause.ensures

@@ -11,7 +11,7 @@ unfolding candidate_base
 returns-in_err-hold_step g c =
     let p = err_from_is_err_and c.from_residual.result c.from_residual.ensures.1 in
     rw (p.1, p.2)
-    (stop_is _ _ _ _ (step_clauses c.args.model.now.«record».now c.args.model.now.gates.now) (bad_clause c.args.model.now.«record».now ∷ []) _ _ _ _ refl c.in_err-hold_step.ensures)
+    (stop_is (bad_clause c.args.model.now.«record».now ∷ []) refl c.in_err-hold_step.ensures)
 
 pub returns : goal.returns
 unfolding candidate_base
@@ -24,4 +24,4 @@ returns g c =
     ap (λ l. step ++ (l ∷ c.clause_literal-output.result ∷ []) ∷ []) due
     ∙ ap (λ l. step ++ (negation_of (positive (due_variable M 0)) ∷ l ∷ []) ∷ []) out
     ∙ ap (λ n. step ++ (negation_of (positive (due_variable n 0)) ∷ clause_literal n c.args.model.now.«record».now.output ∷ []) ∷ []) c.maximum_of-maximum.ensures.value in
-    then_is _ _ _ _ step _ _ _ ((c.negation.result ∷ c.clause_literal-output.result ∷ []) ∷ []) _ _ _ _ e c.in_ok-hold_step.ensures c.hold_clause.ensures
+    then_is e c.in_ok-hold_step.ensures c.hold_clause.ensures

@@ -1,6 +1,6 @@
 use Rattle.std.proofs.Common.{[], ◌∷◌, ◌++◌, refl}
 use Rattle.std.proofs.lemmas.Result.{err_from_is_err_and}
-use Rattle.encoding.specs.Clauses.{outside_clause, entry_clauses, choice_clause, candidate_row}
+use Rattle.encoding.specs.Clauses.{entry_clauses, choice_clause, candidate_row}
 use Rattle.encoding.proofs.Holding.{then_is, stop_is, held_then, held_stop}
 use Rattle.encoding.proofs.candidate.put_row.Goals as goal
 
@@ -9,7 +9,7 @@ unfolding candidate_row
 returns-in_err-hold_outside g c =
     let p = err_from_is_err_and c.from_residual.result c.from_residual.ensures.1 in
     rw (p.1, p.2)
-    (stop_is _ _ _ _ (outside_clause c.args.model.now.«record».now c.args.row ∷ []) (entry_clauses c.args.model.now.«record».now c.args.row c.args.place ++ choice_clause c.args.model.now.«record».now c.args.place ∷ []) _ _ _ _ refl
+    (stop_is (entry_clauses c.args.model.now.«record».now c.args.row c.args.place ++ choice_clause c.args.model.now.«record».now c.args.place ∷ []) refl
     c.in_err-hold_outside.ensures)
 
 pub returns-in_err-hold_entries : goal.returns-in_err-hold_entries
@@ -17,13 +17,13 @@ unfolding candidate_row
 returns-in_err-hold_entries g c =
     let p = err_from_is_err_and c.from_residual-in_err-hold_entries.result c.from_residual-in_err-hold_entries.ensures.1 in
     rw (p.1, p.2)
-    (then_is _ _ _ _ (outside_clause c.args.model.now.«record».now c.args.row ∷ []) _ _ _ (entry_clauses c.args.model.now.«record».now c.args.row c.args.place ++ choice_clause c.args.model.now.«record».now c.args.place ∷ []) _ _ _ _ refl
+    (then_is refl
     c.in_ok-hold_outside.ensures
-    (held_stop _ _ _ (entry_clauses c.args.model.now.«record».now c.args.row c.args.place) (choice_clause c.args.model.now.«record».now c.args.place ∷ []) _ _ _ _ c.in_err-hold_entries.ensures))
+    (held_stop (choice_clause c.args.model.now.«record».now c.args.place ∷ []) c.in_err-hold_entries.ensures))
 
 pub returns : goal.returns
 unfolding candidate_row
 returns g c =
-    then_is _ _ _ _ (outside_clause c.args.model.now.«record».now c.args.row ∷ []) _ _ _ (entry_clauses c.args.model.now.«record».now c.args.row c.args.place ++ choice_clause c.args.model.now.«record».now c.args.place ∷ []) _ _ _ _ refl
+    then_is refl
     c.in_ok-hold_outside.ensures
-    (held_then _ _ _ (entry_clauses c.args.model.now.«record».now c.args.row c.args.place) _ _ _ (choice_clause c.args.model.now.«record».now c.args.place ∷ []) _ _ _ _ c.in_ok-hold_entries.ensures c.hold_choice.ensures)
+    (held_then c.in_ok-hold_entries.ensures c.hold_choice.ensures)

@@ -14,7 +14,7 @@ returns-in_err-hold_gates g c =
     ap (λ n. flat_map (gate_clauses n) gs ++ constant_clause n ∷ []) c.maximum_of-maximum.ensures.value
     ∙ ap (λ t. flat_map (gate_clauses c.args.model.now.«record».now.maximum) t ++ constant_clause c.args.model.now.«record».now.maximum ∷ []) c.used_gates.ensures in
     rw (p.1, p.2)
-    (stop_is _ _ _ _ (flat_map (gate_clauses M) gs) (constant_clause M ∷ []) _ _ _ _ e c.in_err-hold_gates.ensures)
+    (stop_is (constant_clause M ∷ []) e c.in_err-hold_gates.ensures)
 
 pub returns : goal.returns
 returns g c =
@@ -24,4 +24,4 @@ returns g c =
     ap (λ l. flat_map (gate_clauses M) gs ++ (l ∷ []) ∷ []) c.positive_of.ensures
     ∙ ap (λ n. flat_map (gate_clauses n) gs ++ constant_clause n ∷ []) c.maximum_of-maximum.ensures.value
     ∙ ap (λ t. flat_map (gate_clauses c.args.model.now.«record».now.maximum) t ++ constant_clause c.args.model.now.«record».now.maximum ∷ []) c.used_gates.ensures in
-    then_is _ _ _ _ (flat_map (gate_clauses M) gs) _ _ _ ((c.positive_of.result ∷ []) ∷ []) _ _ _ _ e c.in_ok-hold_gates.ensures c.hold_clause.ensures
+    then_is e c.in_ok-hold_gates.ensures c.hold_clause.ensures

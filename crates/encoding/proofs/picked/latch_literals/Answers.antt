@@ -1,12 +1,7 @@
-use Rattle.std.proofs.Common.{map}
-use Rattle.std.proofs.lemmas.List.{at_drop_more, at_drop_all}
-use Rattle.encoding.proofs.Tables.{put_more, put_all}
+use Rattle.std.proofs.Common.{rules, tests, refl}
+use Rattle.std.proofs.lemmas.Iterator.{YieldsList-from_slice, YieldsList-from_map}
+use Rattle.sat.proofs.Loops.{collected}
 use Rattle.encoding.proofs.picked.latch_literals.Goals as goal
 
-pub loop-latch-preserved : goal.loop-latch-preserved
-loop-latch-preserved c =
-    put_more _ _ _ _ _ _ c.push.ensures (at_drop_more (map (λ x. x.literal)) c.args.latches.now c.loop-latch.latch-index _ c.loop-latch-test.true) c.loop-latch.invariant
-
 pub returns : goal.returns
-returns c =
-    put_all c.loop-latch.table _ _ (at_drop_all (map (λ x. x.literal)) c.args.latches.now c.loop-latch.latch-index c.loop-latch-test.false) c.loop-latch.invariant
+returns c = collected _ c.of.ensures (YieldsList-from_map _ (λ l. l.literal) (YieldsList-from_slice c.args.latches.now cc) refl (λ x r q k. search (rules, tests)))

@@ -1,5 +1,5 @@
 use Rattle.std.proofs.Common.{◌≡◌, ◌+◌, rules, sym, refl, ap, ◌∙◌, arith}
-use Rattle.counting.specs.Held.{held}
+use Rattle.cells.specs.Held.{held}
 use Rattle.sat.specs.Answers.{zeroed}
 use Rattle.sat.specs.declared.answer.Answer.TheVariants.{No}
 use Rattle.sat.proofs.Decisions.{decided_no, narrowly_no, narrowed_from, zeroed_all}
@@ -30,7 +30,7 @@ returns-then-eq c =
     let p = narrow_none _ _ _ _ _ (sym c.in_ok-check_narrow.ensures) in
     let a : c.answer-found.result ≡ No = search rules in
     let V = c.args.self.now.variables in
-    let cs = held c.args.self.now.table in
+    let cs = held c.args.self.now.cells in
     let d = decided_no V cs c.args.assumed.now c.args.values.now c.args.marks.now c.answer-found.new.values c.answer-found.new.marks c.answer-found.result c.answer-found.ensures.cases a in
     record {
       refused = c.in_ok-check_narrow.ensures;
@@ -39,6 +39,4 @@ returns-then-eq c =
           (zeroed_all (V + 1) V c.answer-found.new.values c.fill_front.new.bytes refl (omega (arith, p.0.values_fit, c.answer-found.auto.values)) c.fill_front.ensures
           ∙ ap (λ x. zeroed (V + 1) x) d.1);
       same = refl;
-      same_variables = refl;
-      same_cells = refl;
     }
