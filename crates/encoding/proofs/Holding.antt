@@ -41,11 +41,18 @@ append_stop m (c ∷ xs) ys f h =
       | Some e ↦ λ k. (refl, k)
     ] h
 
+-- one clause that is held, and one that is refused
+pub one_held : {m m' : Meaning} (c : Clause) → None ≡ hold_fault m.variables (free m) c → m' ≡ with_clause m c → Held m (c ∷ []) m' None
+one_held {m} c e a = record { refused = ap (else_after Some None) e; after = a ∙ ap (else_after (λ f. m) (with_clause m c)) e }
+
+pub one_refused : {m m' : Meaning} (c : Clause) (f : SolverFault) → Some f ≡ hold_fault m.variables (free m) c → m' ≡ m → Held m (c ∷ []) m' (Some f)
+one_refused {m} c f e a = record { refused = ap (else_after Some None) e; after = a ∙ ap (else_after (λ f. m) (with_clause m c)) e }
+
 -- one clause, as a solver answers
 pub held_one : {X : Type 0} {m m' : Meaning} (c : Clause) (r : Result X SolverFault)
     → result_err r ≡ hold_fault m.variables (free m) c → m' ≡ cond (is_ok r) (with_clause m c) m → Held m (c ∷ []) m' (result_err r)
-held_one {m} c (Ok x) e a = record { refused = ap (else_after Some None) e; after = a ∙ ap (else_after (λ f. m) (with_clause m c)) e }
-held_one {m} c (Err f) e a = record { refused = ap (else_after Some None) e; after = a ∙ ap (else_after (λ f. m) (with_clause m c)) e }
+held_one c (Ok x) e a = one_held c e a
+held_one c (Err f) e a = one_refused c f e a
 
 -- some clauses held, and then more
 pub held_then : {m m₁ m₂ : Meaning} {xs ys : List Clause} {o : Option SolverFault} → Held m xs m₁ None → Held m₁ ys m₂ o → Held m (xs ++ ys) m₂ o
