@@ -1,8 +1,9 @@
 -- Clauses held one after another.
-use Rattle.std.proofs.Common.{◌≡◌, ℕ, ◌+◌, ◌<◌, ◌≤◌, true, cond, List, [], ◌∷◌, ◌++◌, map, length, get_or, take, drop, is_ok, Some, None, Ok, Err, Option, Result, sym, refl, ap, ◌∙◌, subst, arith}
+use Rattle.std.proofs.Common.{◌≡◌, ℕ, ◌+◌, ◌<◌, ◌≤◌, true, cond, List, [], ◌∷◌, ◌++◌, length, get_or, take, drop, is_ok, Some, None, Ok, Err, Option, Result, sym, refl, ap, ◌∙◌, subst, arith}
 use Rattle.std.specs.Result.{result_err}
 use Rattle.std.specs.List.{flat_map}
 use Rattle.std.proofs.lemmas.List.{append_assoc, append-nil, take_more, take_all, take-append-drop}
+use Rattle.std.proofs.lemmas.Grind.{flat_map-append}
 use Rattle.std.proofs.lemmas.Bool.{and_parts}
 use Rattle.sat.specs.declared.fault.SolverFault.{SolverFault}
 use Rattle.sat.specs.Clauses.{Clause, Meaning, cells_of, free, with_clause, with_clauses}
@@ -11,9 +12,6 @@ use Rattle.sat.proofs.Checks.{hold_passes}
 use Rattle.sat.proofs.Laws.{cells_of_push}
 use Rattle.encoding.specs.Holding.{else_after, held_after, held_fault, Held}
 use Rattle.encoding.specs.Laws.{ClausesFit}
-
-some_none : {X : Type 0} {Y : Type 0} (x : X) → Some x ≡ None → Y
-some_none x e = let z : ◌≡◌ {A = ℕ} 0 1 = cc in absurd (omega arith)
 
 -- clauses after others that are all held
 pub append_go : (m : Meaning) (xs ys : List Clause) → held_fault m xs ≡ None
@@ -25,13 +23,13 @@ append_go m (c ∷ xs) ys h =
     → (else_after (λ f. m) (held_after more (xs ++ ys)) o ≡ held_after (else_after (λ f. m) (held_after more xs) o) ys)
     × (else_after Some (held_fault more (xs ++ ys)) o ≡ held_fault (else_after (λ f. m) (held_after more xs) o) ys)) [
       | None ↦ λ k. append_go more xs ys k
-      | Some f ↦ λ k. some_none f k
+      | Some f ↦ λ k. cc
     ] h
 
 -- clauses after others of which one is refused
 pub append_stop : (m : Meaning) (xs ys : List Clause) (f : SolverFault) → held_fault m xs ≡ Some f
     → (held_after m (xs ++ ys) ≡ held_after m xs) × (held_fault m (xs ++ ys) ≡ Some f)
-append_stop m [] ys f h = some_none f (sym h)
+append_stop m [] ys f h = cc
 append_stop m (c ∷ xs) ys f h =
     let more = with_clause m c in
     elim (hold_fault m.variables (free m) c) as (λ o. else_after Some (held_fault more xs) o ≡ Some f
@@ -41,11 +39,18 @@ append_stop m (c ∷ xs) ys f h =
       | Some e ↦ λ k. (refl, k)
     ] h
 
+-- one clause that is held, and one that is refused
+pub one_held : {m m' : Meaning} (c : Clause) → None ≡ hold_fault m.variables (free m) c → m' ≡ with_clause m c → Held m (c ∷ []) m' None
+one_held {m} c e a = record { refused = ap (else_after Some None) e; after = a ∙ ap (else_after (λ f. m) (with_clause m c)) e }
+
+pub one_refused : {m m' : Meaning} (c : Clause) (f : SolverFault) → Some f ≡ hold_fault m.variables (free m) c → m' ≡ m → Held m (c ∷ []) m' (Some f)
+one_refused {m} c f e a = record { refused = ap (else_after Some None) e; after = a ∙ ap (else_after (λ f. m) (with_clause m c)) e }
+
 -- one clause, as a solver answers
 pub held_one : {X : Type 0} {m m' : Meaning} (c : Clause) (r : Result X SolverFault)
     → result_err r ≡ hold_fault m.variables (free m) c → m' ≡ cond (is_ok r) (with_clause m c) m → Held m (c ∷ []) m' (result_err r)
-held_one {m} c (Ok x) e a = record { refused = ap (else_after Some None) e; after = a ∙ ap (else_after (λ f. m) (with_clause m c)) e }
-held_one {m} c (Err f) e a = record { refused = ap (else_after Some None) e; after = a ∙ ap (else_after (λ f. m) (with_clause m c)) e }
+held_one c (Ok x) e a = one_held c e a
+held_one c (Err f) e a = one_refused c f e a
 
 -- some clauses held, and then more
 pub held_then : {m m₁ m₂ : Meaning} {xs ys : List Clause} {o : Option SolverFault} → Held m xs m₁ None → Held m₁ ys m₂ o → Held m (xs ++ ys) m₂ o
@@ -85,21 +90,17 @@ held_whole m need (c ∷ cs) fit room =
       ap (else_after (λ f. m) (held_after (with_clause m c) cs)) passes ∙ rest.1 ∙ ap (with_clauses m) (append_assoc m.clauses (c ∷ []) cs),
     )
 
-joined_append : {X Y : Type 0} (f : X → List Y) (xs ys : List X) → flat_map f (xs ++ ys) ≡ flat_map f xs ++ flat_map f ys
-joined_append f [] ys = refl
-joined_append f (x ∷ xs) ys = ap (λ t. f x ++ t) (joined_append f xs ys) ∙ sym (append_assoc (f x) (flat_map f xs) (flat_map f ys))
-
 -- a loop that holds the clauses of each element
 module _ {X : Type 0} (f : X → List Clause) (xs : List X) where
   joined_take : (i : ℕ) (d : X) → i < length xs → flat_map f (take (i + 1) xs) ≡ flat_map f (take i xs) ++ f (get_or xs i d)
   joined_take i d h =
-      ap (flat_map f) (take_more xs i d h) ∙ joined_append f (take i xs) (get_or xs i d ∷ [])
+      ap (flat_map f) (take_more xs i d h) ∙ flat_map-append f (take i xs) (get_or xs i d ∷ [])
       ∙ ap (λ t. flat_map f (take i xs) ++ t) (append-nil (f (get_or xs i d)))
 
   joined_split : (i : ℕ) (d : X) → i < length xs
       → (flat_map f (take i xs) ++ f (get_or xs i d)) ++ flat_map f (drop (i + 1) xs) ≡ flat_map f xs
   joined_split i d h =
-      ap (λ t. t ++ flat_map f (drop (i + 1) xs)) (sym (joined_take i d h)) ∙ sym (joined_append f (take (i + 1) xs) (drop (i + 1) xs))
+      ap (λ t. t ++ flat_map f (drop (i + 1) xs)) (sym (joined_take i d h)) ∙ sym (flat_map-append f (take (i + 1) xs) (drop (i + 1) xs))
       ∙ ap (flat_map f) (take-append-drop (i + 1) xs)
 
   -- nothing is held yet
@@ -125,8 +126,4 @@ whole_from {m} {added} r need held fit room =
   where
     ok_none : {X : Type 0} (r : Result X SolverFault) → result_err r ≡ None → is_ok r ≡ true
     ok_none (Ok x) e = refl
-    ok_none (Err f) e = some_none f e
-
-pub joined_map : {X : Type 0} (f : X → Clause) (xs : List X) → flat_map (λ x. f x ∷ []) xs ≡ map f xs
-joined_map f [] = refl
-joined_map f (x ∷ xs) = ap (λ t. f x ∷ t) (joined_map f xs)
+    ok_none (Err f) e = cc

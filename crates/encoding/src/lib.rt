@@ -5,13 +5,12 @@ pub mod answer;
 pub mod assumptions;
 pub mod candidate;
 mod care;
-mod clause_literal;
 mod gates;
-mod hold;
 pub mod laws;
 mod model_literals;
 pub mod numbers;
 mod picked;
+mod variables;
 
 pub use answer::{hold_answer_base, hold_answer_row};
 pub use assumptions::{due_literal, push_answer, push_event, push_state};

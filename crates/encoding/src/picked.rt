@@ -1,62 +1,12 @@
-// Lists of a model's literals, and what masks and signs pick of them, put into tables.
+// What masks and signs pick of literals, put into tables.
 
-ghost use Rattle.std.specs.Prelude.{◌≡◌, ◌≤◌, ◌++◌, map, take};
+ghost use Rattle.std.specs.Prelude.{◌≡◌, ◌≤◌, ◌++◌, length, map, take};
 ghost use Rattle.literal.specs.Truth.{negation_of};
-ghost use Rattle.circuit.specs.Settled.{same_side, of_side};
-ghost use Rattle.encoding.specs.Literals.{clause_literal, signed, with_signs, cared};
+ghost use Rattle.encoding.specs.Clauses.{not_all};
+ghost use Rattle.encoding.specs.Literals.{signed, with_signs, cared};
 
-use crate::clause_literal::clause_literal;
-use circuit::{Input, Latch, Side};
 use literal::Literal;
 use sat::{Literals, MAX_LITERALS};
-
-pub fn latch_literals(latches: &[Latch]) -> Literals
-    ensures { result ≡ take 64 (map (λ l. l.literal) latches.now) }
-{
-    Literals::of(latches.iter().map(|latch| latch.literal))
-}
-
-// What the latches take over, as literals of clauses.
-pub fn next_literals(latches: &[Latch], maximum: u16) -> Literals
-    requires { maximum ≤ 4096 }
-    ensures { result ≡ take 64 (map (λ l. clause_literal maximum l.next) latches.now) }
-{
-    Literals::of(
-        latches
-            .iter()
-            .map(|latch| clause_literal(maximum, latch.next)),
-    )
-}
-
-// The inputs of a side.
-pub fn side_literals(inputs: &[Input], side: Side) -> Literals
-    ensures { result ≡ take 64 (map (λ i. i.literal) (of_side side inputs.now)) }
-{
-    Literals::of(
-        inputs
-            .iter()
-            .filter(|input| same_side(side, input.side))
-            .map(|input| input.literal),
-    )
-}
-
-fn same_side(one: Side, other: Side) -> bool
-    ensures { result ≡ same_side one other }
-{
-    match one {
-        Side::Event => matches_event(other),
-        Side::Answer => !matches_event(other),
-    }
-}
-
-fn matches_event(side: Side) -> bool
-    ensures { result ≡ same_side Side.Event side }
-{
-    match side {
-        Side::Event => true,
-        Side::Answer => false,
-    }
-}
 
 // The literal as it is for a 1, and negated for a 0.
 fn signed_as(literal: Literal, bit: bool) -> Literal
@@ -66,11 +16,11 @@ fn signed_as(literal: Literal, bit: bool) -> Literal
 }
 
 // Puts the literals with the signs of the number's bits.
-pub fn push_signed(table: &mut Literals, literals: &[Literal], number: u32)
+pub fn push_signed(table: &mut Literals, literals: &Literals, number: u32)
     ensures { table.new ≡ take 64 (table.old ++ with_signs literals.now number) }
 {
     let mut bits = number;
-    for literal in literals {
+    for literal in literals.as_slice() {
         table.push(signed_as(*literal, bits % 2 == 1));
         bits /= 2;
     }
@@ -78,12 +28,12 @@ pub fn push_signed(table: &mut Literals, literals: &[Literal], number: u32)
 }
 
 // Puts those at the bits of the mask, with the signs of the value's bits.
-pub fn push_cared(table: &mut Literals, literals: &[Literal], care: u32, value: u32)
+pub fn push_cared(table: &mut Literals, literals: &Literals, care: u32, value: u32)
     ensures { table.new ≡ take 64 (table.old ++ cared literals.now care value) }
 {
     let mut care = care;
     let mut value = value;
-    for literal in literals {
+    for literal in literals.as_slice() {
         if care % 2 == 1 {
             table.push(signed_as(*literal, value % 2 == 1));
         }
@@ -94,8 +44,19 @@ pub fn push_cared(table: &mut Literals, literals: &[Literal], care: u32, value: 
 }
 
 // The negation of each.
-pub fn negations(literals: &[Literal]) -> Literals
-    ensures { result ≡ take 64 (map negation_of literals.now) }
+pub fn negations(literals: &Literals) -> Literals
+    ensures { result ≡ map negation_of literals.now }
 {
+    let literals = literals.as_slice();
     Literals::of(literals.iter().map(|literal| literal.negation()))
+}
+
+// The clause that not all of what the mask picks are true.
+pub fn outside(literals: &Literals, care: u32, value: u32) -> Literals
+    requires { length literals.now ≤ 32 }
+    ensures { result ≡ not_all (cared literals.now care value) }
+{
+    let mut inside = Literals::none();
+    push_cared(&mut inside, literals, care, value);
+    negations(&inside)
 }

@@ -9,5 +9,5 @@ abbrev pub invariant-loop-gate : goal.invariant-loop-gate
 invariant-loop-gate g l =
     let s = g.S.Solver in
     Held (s.meaning l.initial.solver)
-    (flat_map (gate_clauses l.maximum) (take l.gate-index l.gates))
+    (flat_map (gate_clauses l.variables.maximum) (take l.gate-index l.gates))
     (s.meaning l.solver) None

@@ -10,7 +10,7 @@ use Rattle.encoding.proofs.picked.push_cared.Goals.{then-care-eq1, else-care-eq1
 pub loop-literal-preserved : goal.loop-literal-preserved
 loop-literal-preserved c =
     let o = c.loop-literal in
-    let ls = c.args.literals.now in
+    let ls = c.as_slice-literal-items.result.now in
     elim c.if-care-eq1.branch [
       | then-care-eq1 w ↦
           put_more _ c.if-care-eq1.table _ _ _ _
@@ -24,4 +24,4 @@ loop-literal-preserved c =
 
 pub returns : goal.returns
 returns c =
-    put_all c.loop-literal.table _ _ (let e = ap (λ (xs : List Literal). length xs) c.as_slice.ensures.value in let b = c.as_slice.ensures.bound in omega (arith, e, b)) (at_drop_all (λ t. cared t c.loop-literal.care c.loop-literal.value) c.args.literals.now c.loop-literal.literal-index c.loop-literal-test.false) c.loop-literal.invariant
+    put_all c.loop-literal.table _ _ (let e = ap (λ (xs : List Literal). length xs) c.as_slice.ensures.value in let b = c.as_slice.ensures.bound in omega (arith, e, b)) (at_drop_all (λ t. cared t c.loop-literal.care c.loop-literal.value) c.as_slice-literal-items.result.now c.loop-literal.literal-index c.loop-literal-test.false) c.loop-literal.invariant

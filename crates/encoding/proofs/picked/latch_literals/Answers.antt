@@ -1,7 +1,0 @@
-use Rattle.std.proofs.Common.{rules, tests, refl}
-use Rattle.std.proofs.lemmas.Iterator.{YieldsList-from_slice, YieldsList-from_map}
-use Rattle.sat.proofs.Loops.{collected}
-use Rattle.encoding.proofs.picked.latch_literals.Goals as goal
-
-pub returns : goal.returns
-returns c = collected _ c.of.ensures (YieldsList-from_map _ (λ l. l.literal) (YieldsList-from_slice c.args.latches.now cc) refl (λ x r q k. search (rules, tests)))
