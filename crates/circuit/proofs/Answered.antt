@@ -1,5 +1,5 @@
 -- A step's answer is settled by the values that agree.
-use Rattle.std.proofs.Common.{◌≡◌, ℕ, ◌^◌, ◌<◌, Bool, true, false, cond, ltb, List, length, is_ok, IfOk, Ok, Err, Decides, Result, sym, refl, ap, ◌∙◌, subst, arith, length-take}
+use Rattle.std.proofs.Common.{◌≡◌, ℕ, ◌^◌, ◌<◌, Bool, true, false, cond, ltb, List, is_ok, IfOk, Ok, Err, Decides, Result, sym, refl, ap, ◌∙◌, subst}
 use Rattle.std.proofs.lemmas.Bool.{and_parts, and_from, ltb-true, lt-ltb, cond_both}
 use Rattle.std.proofs.lemmas.Bool.Decides.{Decides-at}
 use Rattle.literal.specs.Truth.{Values}
@@ -14,7 +14,7 @@ use Rattle.circuit.specs.Step.{bit, in_range, state_count, event_numbers, answer
 use Rattle.circuit.proofs.Agreement.{values_agree}
 use Rattle.circuit.proofs.Bits.{next_bit}
 use Rattle.circuit.proofs.Numbers.{next_below}
-use Rattle.circuit.proofs.Soundness.{soundness}
+use Rattle.circuit.proofs.Soundness.{as_many_latches}
 use Rattle.circuit.proofs.Unique.{agree_same, bad_by, next_by}
 
 answered : {X Y : Type 0} (b : Bool) (x : X) (y : Y) → is_ok {T = X} {E = Y} (cond b (Ok x) (Err y)) ≡ b
@@ -33,13 +33,8 @@ range_decides r s e a = (
 )
 
 module _ (r : Record) (gs : List Gate) (s e a : ℕ) (h : sound r gs ≡ true) where
-  as_many : length (latches_of r) ≡ r.latch_count
-  as_many =
-      let z = (soundness r gs h).sizes in
-      length-take r.latch_count r.latches ∙ omega (arith, z.latches, z.latch_places)
-
   next_in_range : (w : Values) → next_of w (latches_of r) < state_count r
-  next_in_range w = subst (λ n. next_of w (latches_of r) < 2 ^ n) as_many (next_below w (latches_of r))
+  next_in_range w = subst (λ n. next_of w (latches_of r) < 2 ^ n) (sym (as_many_latches r gs h)) (next_below w (latches_of r))
 
   tells : (w : Values) → Agrees r gs s e a w → Tells r w (step_of r gs s e a)
   tells w q =

@@ -1,5 +1,5 @@
 -- What a sound record and its gates keep to, part by part.
-use Rattle.std.proofs.Common.{◌≡◌, ℕ, ◌+◌, ◌≤◌, true, eqb, leb, List, [], ◌∷◌, length}
+use Rattle.std.proofs.Common.{◌≡◌, ℕ, ◌+◌, ◌≤◌, true, eqb, leb, List, [], ◌∷◌, length, length-take, arith}
 use Rattle.std.proofs.lemmas.Bool.{and_parts, leb-true, eqb-true}
 use Rattle.circuit.specs.declared.record.Gate.{Gate}
 use Rattle.circuit.specs.declared.record.Record.{Record}
@@ -66,3 +66,22 @@ soundness r gs h =
       output_known = h₅.0;
       blank = h₅.1;
     }
+
+module _ (r : Record) (gs : List Gate) (h : sound r gs ≡ true) where
+  pub few_inputs : r.input_count ≤ 24
+  few_inputs = (soundness r gs h).sizes.inputs
+
+  pub few_latches : r.latch_count ≤ 32
+  few_latches = (soundness r gs h).sizes.latches
+
+  pub as_many_latches : r.latch_count ≡ length (latches_of r)
+  as_many_latches = omega (arith, (soundness r gs h).sizes, length-take r.latch_count r.latches)
+
+  pub as_many_gates : r.gate_count ≡ length (gates_of r gs)
+  as_many_gates = omega (arith, (soundness r gs h).sizes.table, length-take r.gate_count gs)
+
+  pub few_events : event_count (inputs_of r) ≤ 12
+  few_events = (soundness r gs h).events
+
+  pub few_answers : answer_count (inputs_of r) ≤ 12
+  few_answers = (soundness r gs h).answers

@@ -6,6 +6,8 @@ use Rattle.circuit.specs.declared.record.Gate.{Gate}
 use Rattle.circuit.specs.declared.record.Input.{Input}
 use Rattle.circuit.specs.declared.record.Latch.{Latch}
 use Rattle.circuit.specs.declared.record.Record.{Record}
+use Rattle.circuit.specs.declared.record.Side.{Side}
+use Rattle.circuit.specs.declared.record.Side.TheVariants.{Event, Answer}
 use Rattle.circuit.specs.Parts.{inputs_of, latches_of, gates_of, answers?}
 
 abbrev pub member : ℕ → List ℕ → Bool
@@ -24,6 +26,10 @@ answer_count (i ∷ is) = cond (answers? i.side) 1 0 + answer_count is
 abbrev pub event_count : List Input → ℕ
 event_count [] = 0
 event_count (i ∷ is) = cond (answers? i.side) 0 1 + event_count is
+
+abbrev pub side_count : Side → List Input → ℕ
+side_count Event is = event_count is
+side_count Answer is = answer_count is
 
 -- a literal that may be defined, where the variables listed already are: positive, at most the largest variable's, and new
 abbrev pub fresh : ℕ → List ℕ → Literal → Bool

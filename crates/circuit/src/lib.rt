@@ -7,6 +7,7 @@ pub mod model;
 pub mod record;
 pub mod step;
 
+pub use counts::on_side;
 pub use fault::StepFault;
 pub use model::Model;
 pub use record::{Gate, Input, Latch, Record, Side};

@@ -22,6 +22,7 @@ impl<'a> Model<'a> {
     {
         Model { record, gates }
     }
+
     // The literal that is true where a step breaks a rule.
     pub fn output(&self) -> Literal
         ensures { result ≡ self.now.«record».now.output }

@@ -16,7 +16,7 @@ pub const MAX_LATCHES: usize = 32;
 pub const MAX_GATES: usize = 2048;
 
 // An AND gate: the output is true where both operands are.
-#[derive(Clone, Copy)]
+#[derive(Clone, Copy, PartialEq, Eq, Debug)]
 pub struct Gate {
     pub output: Literal,
     pub left: Literal,
@@ -24,27 +24,28 @@ pub struct Gate {
 }
 
 // Who sets an input: a plug-in by its event, or the host by its answer.
-#[derive(Clone, Copy)]
+#[derive(Clone, Copy, PartialEq, Eq, Debug)]
 pub enum Side {
     Event,
     Answer,
 }
 
-#[derive(Clone, Copy)]
+#[derive(Clone, Copy, PartialEq, Eq, Debug)]
 pub struct Input {
     pub literal: Literal,
     pub side: Side,
 }
 
 // A latch, and the literal whose truth it takes over at a step.
-#[derive(Clone, Copy)]
+#[derive(Clone, Copy, PartialEq, Eq, Debug)]
 pub struct Latch {
     pub literal: Literal,
     pub next: Literal,
 }
 
 // All of a model but its gates. Inputs and latches stand in file order; places past the counts are blank.
-#[derive(Clone, Copy)]
+// Arrays with a count beside them, and no Vec: a record is lent by the caller, and takes no heap.
+#[derive(Clone, Copy, PartialEq, Eq, Debug)]
 pub struct Record {
     pub maximum: u16,
     pub inputs: [Input; MAX_INPUTS],
@@ -55,6 +56,7 @@ pub struct Record {
     pub gate_count: usize,
 }
 
+// Blank parts are constants, and no Default: an array literal repeats a constant.
 impl Gate {
     pub const BLANK: Gate = Gate {
         output: Literal::FALSE,

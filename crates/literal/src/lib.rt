@@ -1,7 +1,7 @@
 // A literal of a circuit or of a clause.
 #![tactic(auto)]
 
-ghost use Rattle.std.specs.Prelude.{◌≡◌, false, not};
+ghost use Rattle.std.specs.Prelude.{◌≡◌, false, not, cond};
 ghost use Rattle.literal.specs.Truth.{Values, variable_of, negated, negation_of, truth, values_of};
 
 // Code 2v is variable v, and 2v + 1 its negation. Variable 0 is false, so code 0 is false and code 1 is true.
@@ -25,7 +25,7 @@ impl Literal {
     pub fn variable(self) -> usize
         ensures { result ≡ variable_of self }
     {
-        (self.code / 2) as usize
+        usize::from(self.code / 2)
     }
 
     pub fn is_negated(self) -> bool
@@ -38,29 +38,23 @@ impl Literal {
         ensures value { result ≡ negation_of self }
         ensures flips { (v : Values) → truth v result ≡ not (truth v self) }
     {
-        let code = if self.is_negated() {
-            self.code - 1
-        } else {
-            self.code + 1
-        };
-        Literal { code }
+        Literal {
+            code: self.code ^ 1,
+        }
+    }
+
+    // The literal's truth where its variable has that value.
+    pub fn under(self, value: bool) -> bool
+        ensures { result ≡ cond (negated self) (not value) value }
+    {
+        value != self.is_negated()
     }
 
     // Whether the literal is true under the values of the variables; a variable past the table is false.
     pub fn holds(self, values: &[bool]) -> bool
         ensures { result ≡ truth (values_of values.now) self }
     {
-        let value = value_of(values, self.variable());
-        if self.is_negated() { !value } else { value }
-    }
-}
-
-// A variable's value in a table; past its end a variable is false.
-fn value_of(values: &[bool], variable: usize) -> bool
-    ensures { result ≡ values_of values.now variable }
-{
-    match values.get(variable) {
-        Some(value) => *value,
-        None => false,
+        let value = values.get(self.variable()).copied().unwrap_or(false);
+        self.under(value)
     }
 }
