@@ -1,7 +1,6 @@
 -- A region's invariant says that its rows are exact, and its arena can be played.
 use Rattle.std.proofs.Common.{arith}
 use Rattle.std.proofs.lemmas.Bool.Decides.{nat_tests}
-use Rattle.circuit.proofs.Soundness.{Soundness, soundness}
 use Rattle.game.specs.Models.{Playable}
 use Rattle.game.specs.Runs.{Exact}
 use Rattle.game.proofs.Models.{playable}
@@ -18,6 +17,3 @@ region_exact r =
 
 pub region_playable : (r : Region) → Playable (arena_in r)
 region_playable r = playable r.model.«record».now r.model.gates.now
-
-pub region_sound : (r : Region) → Soundness r.model.«record».now r.model.gates.now
-region_sound r = soundness r.model.«record».now r.model.gates.now r.model.fit
