@@ -1,5 +1,5 @@
 -- From what a session returns to what a call is told.
-use Rattle.std.proofs.Common.{◌≡◌, ℕ, ◌+◌, ◌<◌, true, false, cond, eqb, List, [], ◌∷◌, ◌++◌, length, get_or, take, set, sym, refl, ap, ◌∙◌, subst, inl, inr}
+use Rattle.std.proofs.Common.{◌≡◌, ℕ, ◌+◌, ◌<◌, true, false, cond, eqb, List, [], ◌∷◌, ◌++◌, length, get_or, IsSomeAnd, Some, take, set, sym, refl, ap, ◌∙◌, subst, inl, inr}
 use Rattle.std.proofs.lemmas.List.{take_more_set, map-set, set-get_or, get_or-map}
 use Rattle.region.specs.Subject.{Arena, Row}
 use Rattle.session.specs.Faults.{session_number}
@@ -14,12 +14,7 @@ use Rattle.host.specs.declared.exchange.Call.{Call}
 use Rattle.host.specs.declared.exchange.Call.TheVariants.{Raise, Settle, Reset}
 use Rattle.host.specs.declared.exchange.Exchange.{Exchange}
 use Rattle.host.specs.declared.exchange.Reply.{Reply}
-use Rattle.host.specs.declared.exchange.Reply.TheVariants.{Unserved, Raised, Used, Replaced, Restarted, Refused, NotAllowed}
-
-module _ (g : Arena) (rs : List Row) where
-  -- a reset leads to state 0
-  pub reset_back : {s : ℕ} {u : Stage} → Gives g rs (waiting s) resetting done u → u ≡ waiting 0
-  reset_back (sessions.back s n) = refl
+use Rattle.host.specs.declared.exchange.Reply.TheVariants.{Raised, Used, Replaced, Restarted, Refused, NotAllowed}
 
 -- the refusal of a number
 abbrev fault_of : ℕ → SessionFault
@@ -31,11 +26,10 @@ reply_from done (waiting s) = Restarted
 reply_from done (pending s e) = Raised s
 reply_from (settled a true) (waiting n) = Replaced a n
 reply_from (settled a false) (waiting n) = Used n
-reply_from (settled a b) (pending s e) = Unserved
+reply_from (settled a b) (pending s e) = NotAllowed
 reply_from (refused n) t = Refused (fault_of n)
 
 says_is : (r : Reply) (o : sessions.Reply) (t : Stage) → Says r o t → r ≡ reply_from o t
-says_is Unserved o t s = absurd s
 says_is (Raised x) o t s = rw (s.0, s.1.1) refl
 says_is (Used n) o t s = rw (s.0.1, s.1) refl
 says_is (Replaced a n) o t s = rw (s.0, s.1) refl
@@ -87,7 +81,7 @@ module _ (g : Arena) (rs : List Row) (p : Promise g rs) where
 
 module _ (g : Arena) where
   -- one exchange more
-  pub served_more : (xs : List Exchange) (x : Exchange) (t u v : Stage) → Served g t xs u → Told g u x.call x.reply v
+  pub served_more : (xs : List Exchange) (x : Exchange) (t u v : Stage) → Served g t xs u → IsSomeAnd x.reply (λ r. Told g u x.call r v)
       → Served g t (xs ++ (x ∷ [])) v
   served_more [] x t u v s q = (v, rw s at q, refl)
   served_more (y ∷ ys) x t u v s q = (s.0, s.1, served_more ys x s.0 u v s.2 q)
@@ -95,7 +89,7 @@ module _ (g : Arena) where
 module _ (g : Arena) (rs : List Row) (law : Law g rs) (xs before : List Exchange) (i : ℕ) (d : Exchange) (s t : Stage) (r : Reply) where
   -- the exchange at a place, with its reply
   abbrev replied : Exchange
-  replied = record { call = (get_or xs i d).call; reply = r }
+  replied = record { call = (get_or xs i d).call; reply = Some r }
 
   -- the loop goes on with one exchange more
   pub follow_more : i < length xs → Reached g rs law.promise s → Served g (waiting 0) (take i xs) s → calls_of xs ≡ calls_of before

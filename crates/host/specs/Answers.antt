@@ -9,7 +9,7 @@ use Rattle.host.specs.declared.answer.Session.{Session}
 use Rattle.host.specs.declared.answer.Session.TheVariants as stage
 use Rattle.host.specs.declared.exchange.Call.{Call}
 use Rattle.host.specs.declared.exchange.Reply.{Reply}
-use Rattle.host.specs.declared.exchange.Reply.TheVariants.{Unserved, Raised, Used, Replaced, Restarted, Refused, NotAllowed}
+use Rattle.host.specs.declared.exchange.Reply.TheVariants.{Raised, Used, Replaced, Restarted, Refused, NotAllowed}
 use Rattle.host.specs.Served.{call_of}
 
 abbrev pub stage_of : Session → Stage
@@ -18,7 +18,6 @@ stage_of (stage.Raised r) = raised_stage r
 
 -- a reply says what the session returned, and where the session then is
 abbrev pub Says : Reply → sessions.Reply → Stage → Type 0
-Says Unserved o t = ⊥
 Says (Raised s) o t = (o ≡ done) × ((e : ℕ) × (t ≡ pending s e))
 Says (Used n) o t = ((w : ℕ) × (o ≡ settled w false)) × (t ≡ waiting n)
 Says (Replaced a n) o t = (o ≡ settled a true) × (t ≡ waiting n)

@@ -1,6 +1,6 @@
 -- A list of calls on a session, with one reply for each, in the words of the game: which steps are bad, and from which states
 -- bad steps can be avoided for ever. Neither rows nor solvers are spoken of.
-use Rattle.std.specs.Prelude.{◌≡◌, ℕ, ◌<◌, ◌≤◌, List, [], ◌∷◌, map}
+use Rattle.std.specs.Prelude.{◌≡◌, ℕ, ◌<◌, ◌≤◌, List, [], ◌∷◌, map, IsSomeAnd}
 use Rattle.region.specs.Subject.{Arena}
 use Rattle.session.specs.Laws.{Keeps, Breaks}
 use Rattle.session.specs.Sessions as sessions
@@ -39,10 +39,10 @@ pub data Told (g : Arena) : Stage → Call → Reply → Stage → Type 0 where
   -- a call that the session does not allow leaves it as it is
   not_allowed : (t : Stage) (c : Call) → (Allows t (call_of c) → ⊥) → Told g t c NotAllowed t
 
--- one call after another
+-- one call after another, each with its reply
 abbrev pub Served : Arena → Stage → List Exchange → Stage → Type 0
 Served g t [] u = u ≡ t
-Served g t (x ∷ xs) u = (v : Stage) × Told g t x.call x.reply v × Served g v xs u
+Served g t (x ∷ xs) u = (v : Stage) × IsSomeAnd x.reply (λ r. Told g t x.call r v) × Served g v xs u
 
 abbrev pub calls_of : List Exchange → List Call
 calls_of xs = map (λ x. x.call) xs

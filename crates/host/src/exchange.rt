@@ -1,7 +1,6 @@
 // What a host asks of its session, and what comes back.
 
 ghost use Rattle.std.specs.Prelude.{◌≡◌};
-ghost use Rattle.host.specs.declared.exchange.Reply.TheVariants.{Unserved};
 
 use session::SessionFault;
 
@@ -16,8 +15,6 @@ pub enum Call {
 
 #[derive(Clone, Copy, PartialEq, Eq, Debug)]
 pub enum Reply {
-    // Nobody has replied yet.
-    Unserved,
     // The event is raised, in that state.
     Raised(u32),
     // The wish is used, and leads to that state.
@@ -31,22 +28,19 @@ pub enum Reply {
     NotAllowed,
 }
 
-// A call with its reply.
+// A call with its reply, or none where nobody has replied yet.
 #[derive(Clone, Copy, PartialEq, Eq, Debug)]
 pub struct Exchange {
     pub call: Call,
-    pub reply: Reply,
+    pub reply: Option<Reply>,
 }
 
 impl Exchange {
     // A call that nobody has replied to.
     pub fn new(call: Call) -> Exchange
         ensures asked { result.call ≡ call }
-        ensures unserved { result.reply ≡ Unserved }
+        ensures unserved { result.reply ≡ None }
     {
-        Exchange {
-            call,
-            reply: Reply::Unserved,
-        }
+        Exchange { call, reply: None }
     }
 }

@@ -27,10 +27,10 @@ fn follow(region: &Region<'_>, exchanges: &mut [Exchange])
     ensures served { (end : Stage) × Served (arena_in region.now) (waiting 0) exchanges.new end }
     ensures law { Law (arena_in region.now) (rows_in region.now) }
 {
-    let mut session = Session::Waiting(open(region));
+    let mut session = Session::from(open(region));
     for exchange in exchanges.iter_mut() {
         let (after, reply) = session.answer(region, exchange.call);
-        exchange.reply = reply;
+        exchange.reply = Some(reply);
         session = after;
     }
 }

@@ -10,7 +10,7 @@ use std::alloc::AllocError;
 use std::fmt;
 use synthesis::RunFault;
 
-#[derive(Clone, Copy)]
+#[derive(Clone, Copy, PartialEq, Eq, Debug)]
 pub enum JudgeFault {
     Read(ReadFault),
     Solver(SolverFault),
@@ -20,7 +20,7 @@ pub enum JudgeFault {
 }
 
 // A refusal's number, and its place: the file's line, the run's row count, and otherwise 0.
-#[derive(Clone, Copy)]
+#[derive(Clone, Copy, PartialEq, Eq, Debug)]
 pub struct Refusal {
     pub number: u8,
     pub place: usize,
@@ -31,21 +31,13 @@ impl JudgeFault {
     pub fn refusal(self) -> Option<Refusal>
         ensures { result ≡ refusal_in self }
     {
-        match self {
-            JudgeFault::Read(fault) => Some(Refusal {
-                number: fault.number(),
-                place: fault.line() as usize,
-            }),
-            JudgeFault::Solver(fault) => Some(Refusal {
-                number: fault.number(),
-                place: 0,
-            }),
-            JudgeFault::Run(fault) => Some(Refusal {
-                number: fault.number(),
-                place: fault.place(),
-            }),
-            JudgeFault::Memory => None,
-        }
+        let (number, place) = match self {
+            JudgeFault::Read(fault) => (fault.number(), fault.line() as usize),
+            JudgeFault::Solver(fault) => (fault.number(), 0),
+            JudgeFault::Run(fault) => (fault.number(), fault.place()),
+            JudgeFault::Memory => return None,
+        };
+        Some(Refusal { number, place })
     }
 }
 
@@ -99,8 +91,7 @@ impl fmt::Display for Refusal {
     ghost output = { λ r. Some (refusal_text r) };
 
     fn fmt<W: fmt::Write>(&self, f: &mut fmt::Formatter<W>) -> fmt::Result {
-        let number = self.number;
-        let place = self.place;
+        let Refusal { number, place } = self;
         write!(f, "refused {number} at {place}")
     }
 }

@@ -8,14 +8,14 @@ use std::fmt;
 use synthesis::Verdict;
 
 // A verdict and its number of rows.
-#[derive(Clone, Copy)]
+#[derive(Clone, Copy, PartialEq, Eq, Debug)]
 pub struct VerdictLine {
     pub verdict: Verdict,
     pub rows: usize,
 }
 
 // A row and its place.
-#[derive(Clone, Copy)]
+#[derive(Clone, Copy, PartialEq, Eq, Debug)]
 pub struct RowLine {
     pub place: usize,
     pub row: Row,
@@ -25,8 +25,7 @@ impl fmt::Display for VerdictLine {
     ghost output = { λ l. Some (verdict_line l) };
 
     fn fmt<W: fmt::Write>(&self, f: &mut fmt::Formatter<W>) -> fmt::Result {
-        let verdict = self.verdict;
-        let rows = self.rows;
+        let VerdictLine { verdict, rows } = self;
         write!(f, "{verdict} {rows}")
     }
 }
@@ -35,10 +34,8 @@ impl fmt::Display for RowLine {
     ghost output = { λ l. Some (row_line l) };
 
     fn fmt<W: fmt::Write>(&self, f: &mut fmt::Formatter<W>) -> fmt::Result {
-        let place = self.place;
-        let care = self.row.care;
-        let value = self.row.value;
-        let event = self.row.event;
+        let RowLine { place, row } = self;
+        let Row { care, value, event } = row;
         write!(f, "row {place} care {care} value {value} event {event}")
     }
 }

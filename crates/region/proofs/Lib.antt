@@ -1,3 +1,4 @@
 pub mod Exactness
 pub mod Passing
 pub mod Subject
+pub mod FirstFound

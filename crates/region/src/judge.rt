@@ -38,20 +38,8 @@ impl<'a> Region<'a> {
         ensures value { result ≡ passing (arena_in self.now) (rows_in self.now) state event answer }
         ensures judged { Passes (arena_in self.now) state event answer result }
     {
-        self.good_step(state, event, answer)
-    }
-
-    // The same as it is worked out; `passes` has the law above it.
-    fn good_step(&self, state: u32, event: u32, answer: u32) -> Option<u32>
-        ensures { result ≡ passing (arena_in self.now) (rows_in self.now) state event answer }
-    {
-        let Ok((bad, next)) = self.step(state, event, answer) else {
-            return None;
-        };
-        if bad || self.covers(next) {
-            return None;
-        }
-        Some(next)
+        let (bad, next) = self.step(state, event, answer).ok()?;
+        (!bad && !self.covers(next)).then_some(next)
     }
 
     // The lowest answer whose step is not bad and ends uncovered. At an uncovered state there is one for every event.
@@ -59,11 +47,9 @@ impl<'a> Region<'a> {
         ensures cases { Lowest (arena_in self.now) (rows_in self.now) state event result }
         ensures answered { state < (arena_in self.now).states → event < (arena_in self.now).events → covered (rows_in self.now) state ≡ false → is_some result ≡ true }
     {
-        for answer in 0..self.answers() {
-            if let Some(end) = self.passes(state, event, answer) {
-                return Some(Passed { answer, next: end });
-            }
-        }
-        None
+        (0..self.answers()).find_map(|answer| {
+            let next = self.passes(state, event, answer)?;
+            Some(Passed { answer, next })
+        })
     }
 }

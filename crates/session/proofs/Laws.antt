@@ -3,6 +3,9 @@ use Rattle.std.proofs.Common.{◌≡◌, ℕ, zero, suc, ◌<◌, Bool, true, fa
 use Rattle.std.specs.List.{AllByRecursion}
 use Rattle.std.proofs.lemmas.Bool.{both_ways, cases_Bool, cases_eq, cases_lt}
 use Rattle.region.specs.Subject.{Arena, Row, Exact, Playable, good}
+use Rattle.region.specs.Parts.{arena_in, rows_in}
+use Rattle.region.specs.declared.region.Region.{Region}
+use Rattle.region.proofs.Exactness.{region_exact, region_playable}
 use Rattle.region.proofs.Subject.{exact_answered, good_parts, not_good, same_good}
 use Rattle.session.specs.Faults.{session_number}
 use Rattle.session.specs.Laws.{History, opened, more, Breaks, Keeps, Promise, Law}
@@ -24,6 +27,10 @@ first p (suc n) = elim (first p n) [ inl none ↦ here none (cases_Bool (p n)) |
     here none (inr f) =
         inl (λ b l. elim (cases_eq b n) [ inl q ↦ rw q f | inr d ↦ none b (omega (arith, d)) ])
 
+pub keeps_or_breaks : (g : Arena) (s e a : ℕ) → Keeps g s e a → Breaks g s e a → ⊥
+keeps_or_breaks g s e a k (inl b) = both_ways (g.bad s e a) k.0 b
+keeps_or_breaks g s e a k (inr l) = l k.1
+
 module _ (g : Arena) (playable : Playable g) (rs : List Row) (ex : Exact g rs) where
   -- a call leaves a session at home where it found it so
   home_after : {t : Stage} {c : Call} {o : Reply} {after : Stage} → Home g rs t → Gives g rs t c o after → Home g rs after
@@ -42,12 +49,12 @@ module _ (g : Arena) (playable : Playable g) (rs : List Row) (ex : Exact g rs) w
   not_foreign : {t : Stage} {c : Call} {o : Reply} {after : Stage} → Home g rs t → Gives g rs t c o after
       → o ≡ refused (session_number Foreign) → ⊥
   not_foreign h (foreign t c a f) = λ i. home_not_foreign g rs t h f
-  not_foreign h (raised s e n l) = λ i. let z : ◌≡◌ {A = ℕ} 0 1 = cc in omega arith
-  not_foreign h (far_event s e n l) = λ i. let z : ◌≡◌ {A = ℕ} 43 42 = cc in omega arith
-  not_foreign h (back s n) = λ i. let z : ◌≡◌ {A = ℕ} 0 1 = cc in omega arith
-  not_foreign h (used s e w n l k) = λ i. let z : ◌≡◌ {A = ℕ} 0 1 = cc in omega arith
-  not_foreign h (replaced s e w a n l k m q below) = λ i. let z : ◌≡◌ {A = ℕ} 0 1 = cc in omega arith
-  not_foreign h (far_wish s e w n l) = λ i. let z : ◌≡◌ {A = ℕ} 43 42 = cc in omega arith
+  not_foreign h (raised s e n l) = λ i. cc
+  not_foreign h (far_event s e n l) = λ i. grind arith
+  not_foreign h (back s n) = λ i. cc
+  not_foreign h (used s e w n l k) = λ i. cc
+  not_foreign h (replaced s e w a n l k m q below) = λ i. cc
+  not_foreign h (far_wish s e w n l) = λ i. grind arith
 
   never_foreign_lem : {cs : List Call} {os : List Reply} {t : Stage} → History g rs cs os t
       → AllByRecursion (λ o. o ≡ refused (session_number Foreign) → ⊥) os
@@ -63,10 +70,6 @@ module _ (g : Arena) (playable : Playable g) (rs : List Row) (ex : Exact g rs) w
   breaks s e a h la k =
       elim (not_good g rs s e a k) [ inl b ↦ inl b | inr c ↦ inr (ex.lost (g.next s e a) (playable.in_range s e a h.0 h.2 la) c) ]
 
-  keeps_or_breaks : (s e a : ℕ) → Keeps g s e a → Breaks g s e a → ⊥
-  keeps_or_breaks s e a k (inl b) = both_ways (g.bad s e a) k.0 b
-  keeps_or_breaks s e a k (inr l) = l k.1
-
   settles_safely : {s e w a : ℕ} {b : Bool} {after : Stage} → Home g rs (pending s e)
       → Gives g rs (pending s e) (settling w) (settled a b) after → Keeps g s e a × (after ≡ waiting (g.next s e a))
   settles_safely h (used s e w n l k) = (keeps s e w h l k, refl)
@@ -81,7 +84,7 @@ module _ (g : Arena) (playable : Playable g) (rs : List Row) (ex : Exact g rs) w
       → Decides b (Breaks g s e w) × ((b ≡ false → a ≡ w) × (b ≡ false → Keeps g s e w))
   replaced_when_lem h (used s e w n l k) =
       let kept = keeps s e w h l k in
-      ((λ i. absurd (both_ways false refl i), λ i. absurd (keeps_or_breaks s e w kept i)), (λ _. refl, λ _. kept))
+      ((λ i. absurd (both_ways false refl i), λ i. absurd (keeps_or_breaks g s e w kept i)), (λ _. refl, λ _. kept))
   replaced_when_lem h (replaced s e w a n l k m q below) =
       ((λ _. breaks s e w h l k, λ _. refl), (λ i. absurd (both_ways true i refl), λ i. absurd (both_ways true i refl)))
 
@@ -170,9 +173,9 @@ module _ (g : Arena) (playable : Playable g) (rs : List Row) (ex : Exact g rs) (
       let v = one_answer w.1 (home g playable rs ex p) (home g playable rs' ex' p') q q' in
       (cc (v.0, w.0), v.1)
 
-pub law : (g : Arena) → Playable g → (rs : List Row) → Exact g rs → Law g rs
-law g playable rs ex =
+pub law : (r : Region) → Law (arena_in r) (rows_in r)
+law r =
     record {
-      promise = promise g playable rs ex;
-      alike = λ rs' ex' cs os os' t t' p p'. alike g playable rs ex rs' ex' p p';
+      promise = promise (arena_in r) (region_playable r) (rows_in r) (region_exact r);
+      alike = λ rs' ex' cs os os' t t' p p'. alike (arena_in r) (region_playable r) (rows_in r) (region_exact r) rs' ex' p p';
     }

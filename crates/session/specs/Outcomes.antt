@@ -1,14 +1,19 @@
 -- What the calls work out, as equations; the relation of calls is above them.
-use Rattle.std.specs.Prelude.{◌≡◌, ℕ, ◌<◌, ◌≤◌, true, cond, List, Some, None, Ok, Err, MatchBool, Result, nat_lt}
+use Rattle.std.specs.Prelude.{◌≡◌, ℕ, ◌<◌, ◌≤◌, Bool, true, cond, List, Some, None, Ok, Err, MatchBool, Result, nat_lt}
 use Rattle.region.specs.Subject.{Arena, Row}
 use Rattle.region.specs.Judged.{passing, Lowest}
-use Rattle.session.specs.Sessions.{at_home}
+use Rattle.session.specs.Sessions.{Stage, at_home}
 use Rattle.session.specs.Views.{waiting_stage, raised_stage}
 use Rattle.session.specs.declared.fault.SessionFault.TheVariants.{Foreign, OutOfRange}
 use Rattle.session.specs.declared.stage.Raised.{Raised}
 use Rattle.session.specs.declared.stage.Refusal.{Refusal}
 use Rattle.session.specs.declared.stage.Settled.{Settled}
 use Rattle.session.specs.declared.stage.Waiting.{Waiting}
+
+-- the session itself, where it is at home and the call's number is in range; otherwise the session comes back
+abbrev pub checked_of : {S : Type 0} → Arena → List Row → Stage → S → Bool → Result S (Refusal S)
+checked_of g rs t x b =
+    cond (at_home g rs t) (cond b (Ok x) (Err record { session = x; fault = OutOfRange })) (Err record { session = x; fault = Foreign })
 
 abbrev pub reset_session : Waiting
 reset_session = record { state = 0 }

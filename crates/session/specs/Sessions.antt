@@ -10,6 +10,10 @@ pub data Stage : Type 0 where
   waiting : ℕ → Stage
   pending : ℕ → ℕ → Stage
 
+abbrev pub state_of : Stage → ℕ
+state_of (waiting s) = s
+state_of (pending s e) = s
+
 pub data Call : Type 0 where
   raising : ℕ → Call
   settling : ℕ → Call

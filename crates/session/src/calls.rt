@@ -2,14 +2,14 @@
 
 ghost use Rattle.std.specs.Prelude.{◌≡◌, ◌<◌, true};
 ghost use Rattle.region.specs.Parts.{arena_in, rows_in};
-ghost use Rattle.region.specs.Exact.{outside};
 ghost use Rattle.session.specs.Laws.{Law};
 ghost use Rattle.session.specs.Sessions.{waiting, raising, settling, resetting, Gives, at_home};
 ghost use Rattle.session.specs.Views.{waiting_stage, raised_stage, raise_reply, raise_stage, reset_reply, reset_stage, settle_reply, settle_stage};
-ghost use Rattle.session.specs.Outcomes.{reset_session, raise_of, reset_of, JudgedAs, SettledAs};
+ghost use Rattle.session.specs.Outcomes.{checked_of, JudgedAs};
 
 use crate::fault::SessionFault;
 use crate::stage::{Raised, Refusal, Settled, Waiting};
+use crate::staged::Staged;
 use region::Region;
 
 // A waiting session at reset.
@@ -17,7 +17,7 @@ pub fn open(region: &Region<'_>) -> Waiting
     ensures value { waiting_stage result ≡ waiting 0 }
     ensures law { Law (arena_in region.now) (rows_in region.now) }
 {
-    at_reset()
+    Waiting { state: 0 }
 }
 
 impl Waiting {
@@ -25,27 +25,9 @@ impl Waiting {
     pub fn raise(self, region: &Region<'_>, event: u32) -> Result<Raised, Refusal<Waiting>>
         ensures { Gives (arena_in region.now) (rows_in region.now) (waiting_stage self) (raising event) (raise_reply result) (raise_stage result) }
     {
-        self.raise_or_refuse(region, event)
-    }
-
-    // The same as it is worked out; `raise` has the relation.
-    fn raise_or_refuse(self, region: &Region<'_>, event: u32) -> Result<Raised, Refusal<Waiting>>
-        ensures { result ≡ raise_of (arena_in region.now) (rows_in region.now) self event }
-    {
-        if !self.is_home(region) {
-            return Err(Refusal {
-                session: self,
-                fault: SessionFault::Foreign,
-            });
-        }
-        if event >= region.events() {
-            return Err(Refusal {
-                session: self,
-                fault: SessionFault::OutOfRange,
-            });
-        }
+        let waiting = checked(self, region, event < region.events())?;
         Ok(Raised {
-            state: self.state,
+            state: waiting.state,
             event,
         })
     }
@@ -54,26 +36,8 @@ impl Waiting {
     pub fn reset(self, region: &Region<'_>) -> Result<Waiting, Refusal<Waiting>>
         ensures { Gives (arena_in region.now) (rows_in region.now) (waiting_stage self) resetting (reset_reply result) (reset_stage result) }
     {
-        self.reset_or_refuse(region)
-    }
-
-    fn reset_or_refuse(self, region: &Region<'_>) -> Result<Waiting, Refusal<Waiting>>
-        ensures { result ≡ reset_of (arena_in region.now) (rows_in region.now) self }
-    {
-        if !self.is_home(region) {
-            return Err(Refusal {
-                session: self,
-                fault: SessionFault::Foreign,
-            });
-        }
-        Ok(at_reset())
-    }
-
-    // Whether the state is one of the region's, and uncovered.
-    fn is_home(&self, region: &Region<'_>) -> bool
-        ensures { result ≡ at_home (arena_in region.now) (rows_in region.now) (waiting_stage self.now) }
-    {
-        is_uncovered(region, self.state)
+        checked(self, region, true)?;
+        Ok(open(region))
     }
 }
 
@@ -83,32 +47,8 @@ impl Raised {
     pub fn settle(self, region: &Region<'_>, wish: u32) -> Result<Settled, Refusal<Raised>>
         ensures { Gives (arena_in region.now) (rows_in region.now) (raised_stage self) (settling wish) (settle_reply result) (settle_stage result) }
     {
-        self.settle_or_refuse(region, wish)
-    }
-
-    fn settle_or_refuse(self, region: &Region<'_>, wish: u32) -> Result<Settled, Refusal<Raised>>
-        ensures { SettledAs (arena_in region.now) (rows_in region.now) self wish result }
-    {
-        if !self.is_home(region) {
-            return Err(Refusal {
-                session: self,
-                fault: SessionFault::Foreign,
-            });
-        }
-        if wish >= region.answers() {
-            return Err(Refusal {
-                session: self,
-                fault: SessionFault::OutOfRange,
-            });
-        }
-        Ok(self.judged(region, wish))
-    }
-
-    // Whether the state is one of the region's, and uncovered, and the event is one of its events.
-    fn is_home(&self, region: &Region<'_>) -> bool
-        ensures { result ≡ at_home (arena_in region.now) (rows_in region.now) (raised_stage self.now) }
-    {
-        is_uncovered(region, self.state) && self.event < region.events()
+        let raised = checked(self, region, wish < region.answers())?;
+        Ok(raised.judged(region, wish))
     }
 
     // The answer to give on the session's own region, and the session after it.
@@ -125,9 +65,7 @@ impl Raised {
             };
         }
         // At an uncovered state some answer passes, whatever the event.
-        let Some(lowest) = region.lowest_passing(self.state, self.event) else {
-            unreachable()
-        };
+        let lowest = region.lowest_passing(self.state, self.event).unwrap();
         Settled {
             answer: lowest.answer,
             replaced: true,
@@ -136,15 +74,14 @@ impl Raised {
     }
 }
 
-fn at_reset() -> Waiting
-    ensures { result ≡ reset_session }
+// The session itself, where the region is its own and the call's number is in range; otherwise the call's refusal.
+fn checked<S: Staged>(session: S, region: &Region<'_>, in_range: bool) -> Result<S, Refusal<S>>
+    ensures { result ≡ checked_of (arena_in region.now) (rows_in region.now) (S.stage session) session in_range }
 {
-    Waiting { state: 0 }
-}
-
-// Whether the state is one of the region's, and no row covers it.
-fn is_uncovered(region: &Region<'_>, state: u32) -> bool
-    ensures { result ≡ outside (arena_in region.now) (rows_in region.now) state }
-{
-    u64::from(state) < region.states() && !region.covers(state)
+    let fault = match (session.is_home(region), in_range) {
+        (true, true) => return Ok(session),
+        (true, false) => SessionFault::OutOfRange,
+        (false, _) => SessionFault::Foreign,
+    };
+    Err(Refusal { session, fault })
 }

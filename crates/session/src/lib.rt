@@ -4,7 +4,9 @@
 pub mod calls;
 pub mod fault;
 pub mod stage;
+pub mod staged;
 
 pub use calls::open;
 pub use fault::SessionFault;
 pub use stage::{Raised, Refusal, Settled, Waiting};
+pub use staged::Staged;

@@ -1,5 +1,5 @@
 -- The small hosts are models, and their rows are exact.
-use Rattle.std.proofs.Common.{◌≡◌, ℕ, zero, suc, ◌<◌, true, false, List, [], ◌∷◌, refl, ap, ◌∙◌}
+use Rattle.std.proofs.Common.{◌≡◌, ℕ, zero, suc, ◌<◌, true, false, List, [], ◌∷◌, refl}
 use Rattle.std.proofs.lemmas.Bool.{both_ways, and_from, not_from_false}
 use Rattle.circuit.specs.declared.record.Gate.{Gate}
 use Rattle.circuit.specs.declared.record.Record.{Record}
@@ -28,15 +28,6 @@ nothing_computes : sound blank_record [] ≡ true
 unfolding sound
 nothing_computes = refl
 
-pub one_latch_sound : (r : Record) (gs : List Gate) → r ≡ one_latch 5 → gs ≡ one_gate → sound r gs ≡ true
-one_latch_sound r gs p q = ap (λ t. sound t gs) p ∙ ap (sound (one_latch 5)) q ∙ one_latch_computes
-
-pub free_sound : (r : Record) → r ≡ free_latch → sound r [] ≡ true
-free_sound r p = ap (λ t. sound t []) p ∙ free_computes
-
-pub nothing_sound : (r : Record) → r ≡ blank_record → sound r [] ≡ true
-nothing_sound r p = ap (λ t. sound t []) p ∙ nothing_computes
-
 -- where no step is bad the host lasts, and no rows are exact
 module _ (g : Arena) (never : (s e a : ℕ) → g.bad s e a ≡ false) (some : 0 < g.answers) where
   forever : (h s : ℕ) → lasts g h s ≡ true
@@ -55,11 +46,16 @@ nothing_never : (s e a : ℕ) → (arena_of blank_record []).bad s e a ≡ false
 unfolding values_at
 nothing_never s e a = refl
 
-pub one_latch_exact : (r : Record) (gs : List Gate) (rs : List Row) → r ≡ one_latch 5 → gs ≡ one_gate → rs ≡ latch_set ∷ [] → Exact (arena_of r gs) rs
-one_latch_exact r gs rs p q i = rw (p, q, i) worked_cases.kept.exact
+-- what a host's invariant asks of each
+pub record Sound (r : Record) (gs : List Gate) (rs : List Row) : Type 0 where
+  pub sound : sound r gs ≡ true
+  pub exact : Exact (arena_of r gs) rs
 
-pub free_exact : (r : Record) (gs : List Gate) → r ≡ free_latch → gs ≡ [] → Exact (arena_of r gs) []
-free_exact r gs p q = rw (p, q) (never_bad (arena_of free_latch []) free_never (playable free_latch []).some_answer)
+pub one_latch_sound : (r : Record) → r ≡ one_latch 5 → Sound r one_gate (latch_set ∷ [])
+one_latch_sound r p = rw p record { sound = one_latch_computes; exact = worked_cases.kept.exact }
 
-pub nothing_exact : (r : Record) (gs : List Gate) → r ≡ blank_record → gs ≡ [] → Exact (arena_of r gs) []
-nothing_exact r gs p q = rw (p, q) (never_bad (arena_of blank_record []) nothing_never (playable blank_record []).some_answer)
+pub free_sound : (r : Record) → r ≡ free_latch → Sound r [] []
+free_sound r p = rw p record { sound = free_computes; exact = never_bad (arena_of free_latch []) free_never (playable free_latch []).some_answer }
+
+pub nothing_sound : (r : Record) → r ≡ blank_record → Sound r [] []
+nothing_sound r p = rw p record { sound = nothing_computes; exact = never_bad (arena_of blank_record []) nothing_never (playable blank_record []).some_answer }

@@ -1,17 +1,13 @@
 // What a region says of states and steps, worked out by hand.
 
-use crate::models::{
-    SET, free_latch, free_region, nothing_region, one_gate, one_latch, one_latch_region,
-};
-use circuit::{Record, StepFault};
+use crate::models::Host;
+use circuit::StepFault;
 use region::Passed;
 
 #[test]
 fn one_latch_judged(rt: HostRuntime) {
-    let record = one_latch();
-    let gates = one_gate();
-    let rows = [SET];
-    let region = one_latch_region(&record, &gates, &rows);
+    let host = Host::one_latch();
+    let region = host.region();
     assert_eq!(rt; region.states(), 2);
     assert_eq!(rt; region.events(), 2);
     assert_eq!(rt; region.answers(), 2);
@@ -35,8 +31,8 @@ fn one_latch_judged(rt: HostRuntime) {
 
 #[test]
 fn free_latch_judged(rt: HostRuntime) {
-    let record = free_latch();
-    let region = free_region(&record);
+    let host = Host::free_latch();
+    let region = host.region();
     assert!(rt; !region.covers(1));
     assert_eq!(rt; region.passes(0, 0, 1), Some(1));
     assert_eq!(rt;
@@ -47,8 +43,8 @@ fn free_latch_judged(rt: HostRuntime) {
 
 #[test]
 fn nothing_judged(rt: HostRuntime) {
-    let record = Record::blank();
-    let region = nothing_region(&record);
+    let host = Host::nothing();
+    let region = host.region();
     assert_eq!(rt; region.states(), 1);
     assert_eq!(rt; region.events(), 1);
     assert_eq!(rt; region.answers(), 1);

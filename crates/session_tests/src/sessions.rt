@@ -1,104 +1,87 @@
 // Sessions on the host with one latch, and on regions that are not their own.
 
-use crate::models::{
-    SET, free_latch, free_region, nothing_region, one_gate, one_latch, one_latch_region,
-};
-use circuit::Record;
-use session::{Refusal, SessionFault, open};
+use crate::models::Host;
+use session::{Refusal, SessionFault, Settled, open};
+use std::fmt::Debug;
+use std::process::Abort;
 use std::test::Fail;
 
-// What a call refused that had to refuse.
-fn refused<T: Drop, S>(res: Result<T, Refusal<S>>) -> Result<Refusal<S>, Fail> {
-    match res {
-        Ok(_) => Err(Fail::new("the call is not refused")),
-        Err(refusal) => Ok(refusal),
-    }
+// The session that a call gives back, which has to refuse with the fault.
+fn refused<T: Debug, S>(rt: &impl Abort, res: Result<T, Refusal<S>>, fault: SessionFault) -> S {
+    let refusal = res.expect_err(rt, "a refusal");
+    assert_eq!(rt; refusal.fault, fault);
+    refusal.session
+}
+
+// What a settle tells: the answer, and whether it replaces the wish.
+fn told(settled: &Settled) -> (u32, bool) {
+    (settled.answer, settled.replaced)
 }
 
 #[test]
 fn a_wish_is_replaced_or_used(rt: HostRuntime) -> Result<(), Fail> {
-    let record = one_latch();
-    let gates = one_gate();
-    let rows = [SET];
-    let region = one_latch_region(&record, &gates, &rows);
-    let raised = open(&region).raise(&region, 1)?;
-    let settled = raised.settle(&region, 0)?;
-    assert_eq!(rt; settled.answer, 1);
-    assert!(rt; settled.replaced);
-    let raised = settled.session.raise(&region, 1)?;
-    let settled = raised.settle(&region, 1)?;
-    assert_eq!(rt; settled.answer, 1);
-    assert!(rt; !settled.replaced);
+    let host = Host::one_latch();
+    let region = host.region();
+    let settled = open(&region).raise(&region, 1)?.settle(&region, 0)?;
+    assert_eq!(rt; told(&settled), (1, true));
+    let settled = settled.session.raise(&region, 1)?.settle(&region, 1)?;
+    assert_eq!(rt; told(&settled), (1, false));
     // Event 0 is harmless now, and yet answer 0 would lead to the state where event 1 is not.
-    let raised = settled.session.raise(&region, 0)?;
-    let settled = raised.settle(&region, 0)?;
-    assert_eq!(rt; settled.answer, 1);
-    assert!(rt; settled.replaced);
+    let settled = settled.session.raise(&region, 0)?.settle(&region, 0)?;
+    assert_eq!(rt; told(&settled), (1, true));
     Ok(())
 }
 
 #[test]
 fn numbers_out_of_range(rt: HostRuntime) -> Result<(), Fail> {
-    let record = one_latch();
-    let gates = one_gate();
-    let rows = [SET];
-    let region = one_latch_region(&record, &gates, &rows);
-    let Refusal { session, fault } = refused(open(&region).raise(&region, 2))?;
-    assert_eq!(rt; fault, SessionFault::OutOfRange);
-    let raised = session.raise(&region, 1)?;
-    let Refusal { session, fault } = refused(raised.settle(&region, 2))?;
-    assert_eq!(rt; fault, SessionFault::OutOfRange);
-    let settled = session.settle(&region, 1)?;
-    assert_eq!(rt; settled.answer, 1);
-    assert!(rt; !settled.replaced);
+    let host = Host::one_latch();
+    let region = host.region();
+    let waiting = refused(
+        &rt,
+        open(&region).raise(&region, 2),
+        SessionFault::OutOfRange,
+    );
+    let raised = waiting.raise(&region, 1)?;
+    let raised = refused(&rt, raised.settle(&region, 2), SessionFault::OutOfRange);
+    assert_eq!(rt; told(&raised.settle(&region, 1)?), (1, false));
     Ok(())
 }
 
 // The latch of one region is free, in the other it is set only where the host is lost, and the third has none.
 #[test]
 fn a_foreign_state(rt: HostRuntime) -> Result<(), Fail> {
-    let record = one_latch();
-    let gates = one_gate();
-    let rows = [SET];
-    let region = one_latch_region(&record, &gates, &rows);
-    let free_record = free_latch();
-    let free = free_region(&free_record);
-    let no_record = Record::blank();
-    let nothing = nothing_region(&no_record);
+    let (host, free_host, no_host) = (Host::one_latch(), Host::free_latch(), Host::nothing());
+    let (region, free, nothing) = (host.region(), free_host.region(), no_host.region());
     let settled = open(&free).raise(&free, 1)?.settle(&free, 1)?;
-    assert_eq!(rt; settled.answer, 1);
-    assert!(rt; !settled.replaced);
-    let Refusal { session, fault } = refused(settled.session.raise(&region, 5))?;
-    assert_eq!(rt; fault, SessionFault::Foreign);
-    let Refusal { session, fault } = refused(session.reset(&nothing))?;
-    assert_eq!(rt; fault, SessionFault::Foreign);
-    let raised = session.raise(&free, 0)?;
-    let Refusal { session, fault } = refused(raised.settle(&region, 5))?;
-    assert_eq!(rt; fault, SessionFault::Foreign);
+    assert_eq!(rt; told(&settled), (1, false));
+    let waiting = refused(
+        &rt,
+        settled.session.raise(&region, 5),
+        SessionFault::Foreign,
+    );
+    let waiting = refused(&rt, waiting.reset(&nothing), SessionFault::Foreign);
+    let raised = waiting.raise(&free, 0)?;
+    let raised = refused(&rt, raised.settle(&region, 5), SessionFault::Foreign);
     // On its own region it goes on; back at reset it is at home in every region.
-    let settled = session.settle(&free, 1)?;
+    let settled = raised.settle(&free, 1)?;
     assert_eq!(rt; settled.answer, 1);
-    let waiting = settled.session.reset(&free)?;
-    let waiting = waiting.reset(&region)?;
-    let waiting = waiting.reset(&nothing)?;
+    let waiting = settled
+        .session
+        .reset(&free)?
+        .reset(&region)?
+        .reset(&nothing)?;
     let settled = waiting.raise(&region, 1)?.settle(&region, 0)?;
-    assert_eq!(rt; settled.answer, 1);
-    assert!(rt; settled.replaced);
+    assert_eq!(rt; told(&settled), (1, true));
     Ok(())
 }
 
 #[test]
 fn a_foreign_event(rt: HostRuntime) -> Result<(), Fail> {
-    let free_record = free_latch();
-    let free = free_region(&free_record);
-    let no_record = Record::blank();
-    let nothing = nothing_region(&no_record);
+    let (free_host, no_host) = (Host::free_latch(), Host::nothing());
+    let (free, nothing) = (free_host.region(), no_host.region());
     let raised = open(&free).raise(&free, 1)?;
-    let Refusal { session, fault } = refused(raised.settle(&nothing, 0))?;
-    assert_eq!(rt; fault, SessionFault::Foreign);
-    let settled = session.settle(&free, 0)?;
-    assert_eq!(rt; settled.answer, 0);
-    assert!(rt; !settled.replaced);
+    let raised = refused(&rt, raised.settle(&nothing, 0), SessionFault::Foreign);
+    assert_eq!(rt; told(&raised.settle(&free, 0)?), (0, false));
     Ok(())
 }
 

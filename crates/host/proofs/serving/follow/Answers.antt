@@ -1,4 +1,4 @@
-use Rattle.std.proofs.Common.{List, [], sym, refl, subst, arith}
+use Rattle.std.proofs.Common.{List, [], ◌≡◌, sym, refl, ap, ◌∙◌, subst, arith}
 use Rattle.std.proofs.lemmas.List.{take_all}
 use Rattle.region.specs.Parts.{arena_in, rows_in}
 use Rattle.session.specs.Laws.{History, opened}
@@ -12,7 +12,8 @@ use Rattle.host.proofs.serving.follow.Goals as goal
 pub loop-exchange-init : goal.loop-exchange-init
 loop-exchange-init c =
     let H : Stage → Type 0 = λ t. History (arena_in c.args.region.now) (rows_in c.args.region.now) [] [] t in
-    (c.open.ensures.law, ([], [], subst H (sym c.open.ensures.value) opened), c.open.ensures.value, refl)
+    let e : stage_of c.from-session.result ≡ waiting 0 = ap stage_of c.from-session.ensures ∙ c.open.ensures.value in
+    (c.open.ensures.law, ([], [], subst H (sym e) opened), e, refl)
 
 pub loop-exchange-preserved : goal.loop-exchange-preserved
 loop-exchange-preserved c =

@@ -1,14 +1,8 @@
-use Rattle.region.specs.Parts.{arena_in, rows_in}
-use Rattle.region.proofs.Exactness.{region_exact, region_playable}
+use Rattle.std.proofs.Common.{arith}
+use Rattle.std.proofs.lemmas.Grind.{common_steps}
 use Rattle.region.proofs.Passing.{judged}
 use Rattle.region.proofs.region.Region.passes.Goals as goal
 
-pub returns : goal.returns
-returns c =
-    let r = c.args.self.now in
-    record {
-      value = c.good_step.ensures;
-      judged =
-          judged (arena_in r) (rows_in r) c.args.state c.args.event c.args.answer (region_playable r).in_range (region_exact r) c.good_step.result
-          c.good_step.ensures;
-    }
+pub returns-clause-judged : goal.returns-clause-judged
+returns-clause-judged c =
+    judged c.args.self.now c.args.state c.args.event c.args.answer c.then_some.result (grind (arith, common_steps))
