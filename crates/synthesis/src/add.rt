@@ -15,7 +15,7 @@ use game::{Exception, Row};
 use roll::Covering;
 use sat::NarrowingSolver;
 
-impl<'a, 'm, 'r, 'e, C: NarrowingSolver, A: NarrowingSolver> Search<'a, 'm, 'r, 'e, C, A> {
+impl<C: NarrowingSolver, A: NarrowingSolver> Search<'_, '_, '_, '_, C, A> {
     // Adds a row. It drops the exceptions, since fewer rows made them good. Where the row covers reset the host is lost.
     pub fn add_row(&mut self, row: Row) -> Result<Option<Verdict>, RunFault>
         requires turning { Turning (lent_to self.old) }

@@ -10,7 +10,7 @@ use encoding::{hold_answer_base, hold_candidate_base};
 use game::{Exception, Row};
 use sat::{NarrowingSolver, SolverFault};
 
-impl<'a, 'm, 'r, 'e, C: NarrowingSolver, A: NarrowingSolver> Search<'a, 'm, 'r, 'e, C, A> {
+impl<C: NarrowingSolver, A: NarrowingSolver> Search<'_, '_, '_, '_, C, A> {
     // Empties both solvers and both rolls, whatever they held, and gives both solvers the model's steps. With these sizes
     // it is never refused.
     pub fn begin(&mut self) -> Result<(), SolverFault>

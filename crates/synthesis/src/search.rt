@@ -13,7 +13,7 @@ use game::{Exception, Row};
 use roll::Roll;
 use sat::NarrowingSolver;
 
-impl<'a, 'm, 'r, 'e, C: NarrowingSolver, A: NarrowingSolver> Search<'a, 'm, 'r, 'e, C, A> {
+impl<C: NarrowingSolver, A: NarrowingSolver> Search<'_, '_, '_, '_, C, A> {
     // Turns, one after another. Each adds a row, or an exception to the same rows, so they end.
     fn take_turns(&mut self) -> Result<Verdict, RunFault>
         requires turning { Turning (lent_to self.old) }
@@ -49,7 +49,7 @@ pub fn run<'a, C: NarrowingSolver, A: NarrowingSolver>(
     exceptions: &'a mut Roll<'_, Exception>,
     work: &'a mut [u8],
 ) -> Result<(Verdict, usize), RunFault>
-    ensures { RunGives (lent model.now rows.old exceptions.old (C.Solver.meaning candidate.old) (A.Solver.meaning answer.old) work.old) (lent model.now rows.new exceptions.new (C.Solver.meaning candidate.new) (A.Solver.meaning answer.new) work.new) result }
+    ensures cases { RunGives (lent model.now rows.old exceptions.old (C.Solver.meaning candidate.old) (A.Solver.meaning answer.old) work.old) (lent model.now rows.new exceptions.new (C.Solver.meaning candidate.new) (A.Solver.meaning answer.new) work.new) result }
 {
     let sizes = Sizes {
         rows: rows.places(),

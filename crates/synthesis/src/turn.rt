@@ -9,7 +9,7 @@ use crate::state::Search;
 use crate::verdict::Verdict;
 use sat::NarrowingSolver;
 
-impl<'a, 'm, 'r, 'e, C: NarrowingSolver, A: NarrowingSolver> Search<'a, 'm, 'r, 'e, C, A> {
+impl<C: NarrowingSolver, A: NarrowingSolver> Search<'_, '_, '_, '_, C, A> {
     // Asks what is due. Where nothing is the host is kept; else a row or an exception is added, and the host is lost where
     // a row covers reset.
     pub fn turn(&mut self) -> Result<Option<Verdict>, RunFault>
