@@ -1,6 +1,6 @@
 use Rattle.std.proofs.Common.{◌+◌, arith}
 use Rattle.synthesis.proofs.Sizing.{bounds, product}
-use Rattle.synthesis.proofs.sizes.Sizes.answer_fits.Goals as goal
+use Rattle.synthesis.proofs.sizes.Sizes.answer_need.Goals as goal
 
 pub overflow_mul-cells : goal.overflow_mul-cells
 overflow_mul-cells c = let b = bounds c.args.model.now in record { fits = omega (arith, c.gates.ensures) }
