@@ -35,6 +35,7 @@ fn follow(region: &Region<'_>, exchanges: &mut [Exchange])
     }
 }
 
+#[tactic(auto, using(crate::proofs::OneTelling::served_alike))]
 // Decides whether the host can keep its rules for ever from reset, and where it can serves the calls on a session.
 pub fn serve<C: NarrowingSolver, A: NarrowingSolver>(
     model: &Model<'_>,
