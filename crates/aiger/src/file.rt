@@ -24,17 +24,16 @@ pub fn read(file: &[u8], gates: &mut [Gate], record: &mut Record) -> Result<(), 
     ensures law { ReadLaw file.now (length gates.old) (answered result «record».new gates.new) }
     ensures model { OnOk result (sound «record».new gates.new ≡ true) }
 {
-    match fill(file, gates, record) {
-        Ok(()) => Ok(()),
-        Err(fault) => {
-            clear(gates);
-            *record = Record::blank();
-            Err(fault)
-        }
+    if let Err(fault) = fill(file, gates, record) {
+        gates.fill(Gate::BLANK);
+        *record = Record::blank();
+        return Err(fault);
     }
+    Ok(())
 }
 
 // Reads the file; where it refuses, it may leave anything in the gate table.
+#[tactic(auto, unfolding(crate::specs::Read::fill_of, crate::specs::Read::body_of))]
 fn fill(file: &[u8], gates: &mut [Gate], record: &mut Record) -> Result<(), ReadFault>
     ensures { filled result «record».new gates.new ≡ fill_of file.now (length gates.old) }
 {
@@ -48,20 +47,21 @@ fn fill(file: &[u8], gates: &mut [Gate], record: &mut Record) -> Result<(), Read
         return Err(ReadFault::BadHeader);
     };
     check_sizes(header, gates.len())?;
-    clear(gates);
+    gates.fill(Gate::BLANK);
     let mut reader = Reader::new(header);
     read_lines(&mut reader, gates, rest)?;
     *record = reader.model;
     Ok(())
 }
 
+#[tactic(auto, unfolding(crate::specs::Read::sized_of))]
 fn check_sizes(header: Header, places: usize) -> Result<(), ReadFault>
     ensures value { result ≡ sized_of header places }
     ensures bounds { OnOk result (Bounds (model_of header) places) }
 {
-    let inputs = header.inputs as usize;
-    let latches = header.latches as usize;
-    let gates = header.gates as usize;
+    let inputs = usize::from(header.inputs);
+    let latches = usize::from(header.latches);
+    let gates = usize::from(header.gates);
     if header.maximum > MAX_VARIABLE
         || inputs > MAX_INPUTS
         || latches > MAX_LATCHES
@@ -70,21 +70,13 @@ fn check_sizes(header: Header, places: usize) -> Result<(), ReadFault>
     {
         return Err(ReadFault::BadSizes);
     }
-    if (header.maximum as usize) < inputs + latches + gates {
+    if usize::from(header.maximum) < inputs + latches + gates {
         return Err(ReadFault::BadSizes);
     }
     if gates > places {
         return Err(ReadFault::ShortTable);
     }
     Ok(())
-}
-
-fn clear(gates: &mut [Gate])
-    ensures { gates.new ≡ replicate (length gates.old) blank_gate }
-{
-    for gate in gates.iter_mut() {
-        *gate = Gate::BLANK;
-    }
 }
 
 // Takes the lines of `text`, the first of which is line 2 of the file.
@@ -99,16 +91,9 @@ fn read_lines(reader: &mut Reader, gates: &mut [Gate], text: &[u8]) -> Result<()
         at += 1;
         rest = after;
     }
-    if rest.len() > 0 {
-        reader.take(gates, at, unfinished(rest))?;
+    if !rest.is_empty() {
+        reader.take(gates, at, Line::Malformed)?;
         return reader.end(at + 1);
     }
     reader.end(at)
-}
-
-// A last line that has no line feed.
-fn unfinished<'a>(_rest: &'a [u8]) -> Line<'a>
-    ensures { content_of result ≡ malformed }
-{
-    Line::Malformed
 }

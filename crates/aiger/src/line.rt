@@ -6,7 +6,7 @@ ghost use Rattle.std.specs.Option.{option_map};
 
 use text::{field, number};
 
-#[derive(Clone, Copy)]
+#[derive(Clone, Copy, PartialEq, Eq, Debug)]
 pub enum SymbolKind {
     Input,
     Latch,
@@ -14,7 +14,7 @@ pub enum SymbolKind {
 }
 
 // The kinds of line that a file can have after its header. A symbol's name is a part of the file.
-#[derive(Clone, Copy)]
+#[derive(Clone, Copy, PartialEq, Eq, Debug)]
 pub enum Line<'a> {
     One(u16),
     Two(u16, u16),
@@ -24,7 +24,7 @@ pub enum Line<'a> {
     Malformed,
 }
 
-#[derive(Clone, Copy)]
+#[derive(Clone, Copy, PartialEq, Eq, Debug)]
 pub struct Header {
     pub maximum: u16,
     pub inputs: u16,
@@ -34,33 +34,26 @@ pub struct Header {
 }
 
 // Up to three numbers, parted by one space.
+#[tactic(auto, unfolding(crate::specs::Line::numbers_of))]
 fn numbers<'a>(bytes: &'a [u8]) -> Line<'a>
     ensures { content_of result ≡ numbers_of bytes.now }
 {
     let Some((a, rest)) = field(bytes) else {
-        return match number(bytes) {
-            Some(a) => Line::One(a),
-            None => Line::Malformed,
-        };
+        return number(bytes).map_or(Line::Malformed, |a| Line::One(a));
     };
     let Some((b, rest)) = field(rest) else {
-        return match number(rest) {
-            Some(b) => Line::Two(a, b),
-            None => Line::Malformed,
-        };
+        return number(rest).map_or(Line::Malformed, |b| Line::Two(a, b));
     };
-    match number(rest) {
-        Some(c) => Line::Three(a, b, c),
-        None => Line::Malformed,
-    }
+    number(rest).map_or(Line::Malformed, |c| Line::Three(a, b, c))
 }
 
 // A symbol after its letter.
+#[tactic(auto, unfolding(crate::specs::Line::symbol_of))]
 fn symbol<'a>(kind: SymbolKind, bytes: &'a [u8]) -> Line<'a>
     ensures { content_of result ≡ symbol_of kind bytes.now }
 {
     match field(bytes) {
-        Some((position, name)) if name.len() > 0 => Line::Symbol(kind, position, name),
+        Some((position, name)) if !name.is_empty() => Line::Symbol(kind, position, name),
         _ => Line::Malformed,
     }
 }
@@ -75,13 +68,14 @@ pub fn classify<'a>(bytes: &'a [u8]) -> Line<'a>
             'i' => symbol(SymbolKind::Input, rest),
             'l' => symbol(SymbolKind::Latch, rest),
             'o' => symbol(SymbolKind::Output, rest),
-            'c' if rest.len() == 0 => Line::Comment,
+            'c' if rest.is_empty() => Line::Comment,
             _ => numbers(bytes),
         },
     }
 }
 
 // The five numbers of a header.
+#[tactic(auto, unfolding(crate::specs::Line::five_of))]
 fn five_numbers(bytes: &[u8]) -> Option<Header>
     ensures { result ≡ five_of bytes.now }
 {
@@ -110,6 +104,7 @@ fn five_numbers(bytes: &[u8]) -> Option<Header>
 }
 
 // What stands after the word `aag` and its space.
+#[tactic(auto, unfolding(crate::specs::Line::after_word))]
 fn after_word<'a>(bytes: &'a [u8]) -> Option<&'a [u8]>
     ensures { option_map (λ x. x.now) result ≡ after_word bytes.now }
 {

@@ -9,13 +9,13 @@ ghost use Rattle.aiger.specs.Advance.{after, both, over, known_to, fresh_on, lea
 use crate::fault::ReadFault;
 use crate::line::{Header, Line, SymbolKind};
 use circuit::record::{MAX_INPUTS, MAX_LATCHES, MAX_SIDE};
-use circuit::{Gate, Input, Latch, Record, Side};
+use circuit::{Gate, Input, Latch, Record, Side, on_side};
 use literal::Literal;
 
 // The constant and the largest variables.
 pub const VARIABLES: usize = 4097;
 
-#[derive(Clone, Copy)]
+#[derive(Clone, Copy, PartialEq, Eq, Debug)]
 pub enum Section {
     Inputs,
     Latches,
@@ -26,7 +26,7 @@ pub enum Section {
 }
 
 // Which inputs, latches and outputs a symbol has named.
-#[derive(Clone, Copy)]
+#[derive(Clone, Copy, PartialEq, Eq, Debug)]
 pub struct Names {
     pub inputs: [bool; MAX_INPUTS],
     pub latches: [bool; MAX_LATCHES],
@@ -50,32 +50,17 @@ fn is_controllable(name: &[u8]) -> bool
     name.starts_with(b"controllable_")
 }
 
-// How many inputs a plug-in's event sets, and how many the host's answer.
-fn side_counts(inputs: &[Input]) -> (usize, usize)
-    ensures events { result.0 ≡ event_count inputs.now }
-    ensures answers { result.1 ≡ answer_count inputs.now }
-{
-    let mut events = 0;
-    let mut answers = 0;
-    for input in inputs {
-        match input.side {
-            Side::Event => events += 1,
-            Side::Answer => answers += 1,
-        }
-    }
-    (events, answers)
-}
-
 impl Reader {
     // A reader after the header.
+    #[tactic(auto, unfolding(crate::specs::Advance::start_of))]
     pub(crate) fn new(header: Header) -> Reader
         ensures { result ≡ start_of header }
     {
         let mut model = Record::blank();
         model.maximum = header.maximum;
-        model.input_count = header.inputs as usize;
-        model.latch_count = header.latches as usize;
-        model.gate_count = header.gates as usize;
+        model.input_count = usize::from(header.inputs);
+        model.latch_count = usize::from(header.latches);
+        model.gate_count = usize::from(header.gates);
         let mut defined = [false; VARIABLES];
         defined[0] = true;
         let names = Names {
@@ -104,13 +89,14 @@ impl Reader {
     fn knows(&self, literal: Literal) -> bool
         ensures { result ≡ known_to self.now literal }
     {
-        match self.defined.get(literal.variable()) {
-            Some(defined) => *defined,
-            None => false,
-        }
+        self.defined
+            .get(literal.variable())
+            .copied()
+            .unwrap_or(false)
     }
 
     // Refuses a literal that line `at` may not define.
+    #[tactic(auto, unfolding(crate::specs::Advance::fresh_on))]
     fn check_fresh(&self, at: u32, literal: Literal) -> Result<(), ReadFault>
         requires { self.now.model.maximum ≤ 4096 }
         ensures value { result ≡ fresh_on at literal self.now }
@@ -126,6 +112,7 @@ impl Reader {
     }
 
     // Goes on to the latches where all inputs are read.
+    #[tactic(auto, unfolding(crate::specs::Advance::leave_inputs))]
     fn leave_inputs(&mut self)
         ensures { self.new ≡ leave_inputs self.old }
     {
@@ -137,6 +124,7 @@ impl Reader {
     }
 
     // Goes on to the output where all latches are read.
+    #[tactic(auto, unfolding(crate::specs::Advance::leave_latches))]
     fn leave_latches(&mut self)
         ensures { self.new ≡ leave_latches self.old }
     {
@@ -147,6 +135,7 @@ impl Reader {
     }
 
     // Goes on to the symbols where all gates are read; by then every next literal and the output have to be defined.
+    #[tactic(auto, unfolding(crate::specs::Advance::leave_gates))]
     fn leave_gates(&mut self) -> Result<(), ReadFault>
         requires { (self.old.model.latch_count ≤ 32) × (self.old.model.input_count ≤ 24) }
         ensures { after result self.new ≡ leave_gates self.old }
@@ -160,23 +149,25 @@ impl Reader {
     }
 
     // Refuses a next literal or an output that no line has defined.
+    #[tactic(auto, unfolding(crate::specs::Advance::close_on))]
     fn check_operands(&self) -> Result<(), ReadFault>
         requires { (self.now.model.latch_count ≤ 32) × (self.now.model.input_count ≤ 24) }
         ensures { result ≡ close_on self.now }
     {
-        let mut at = self.model.input_count as u32 + 2;
-        for latch in &self.model.latches[0..self.model.latch_count] {
+        let first = self.model.input_count as u32 + 2;
+        let latches = &self.model.latches[..self.model.latch_count];
+        for (j, latch) in latches.iter().enumerate() {
             if !self.knows(latch.next) {
-                return Err(ReadFault::Undefined(at));
+                return Err(ReadFault::Undefined(first + j as u32));
             }
-            at += 1;
         }
         if !self.knows(self.model.output) {
-            return Err(ReadFault::Undefined(at));
+            return Err(ReadFault::Undefined(first + latches.len() as u32));
         }
         Ok(())
     }
 
+    #[tactic(auto, unfolding(crate::specs::Advance::input_on))]
     fn input(&mut self, at: u32, literal: Literal) -> Result<(), ReadFault>
         requires { (self.old.model.maximum ≤ 4096) × (self.old.place < 24) }
         ensures { after result self.new ≡ input_on at literal self.old }
@@ -192,6 +183,7 @@ impl Reader {
         Ok(())
     }
 
+    #[tactic(auto, unfolding(crate::specs::Advance::latch_on))]
     fn latch(&mut self, at: u32, latch: Latch) -> Result<(), ReadFault>
         requires { (self.old.model.maximum ≤ 4096) × (self.old.place < 32) }
         ensures { after result self.new ≡ latch_on at latch self.old }
@@ -207,6 +199,7 @@ impl Reader {
         Ok(())
     }
 
+    #[tactic(auto, unfolding(crate::specs::Advance::output_on))]
     fn output(&mut self, at: u32, literal: Literal) -> Result<(), ReadFault>
         requires maximum_bound { self.old.model.maximum ≤ 4096 }
         requires latch_count_bound { (self.old.model.latch_count ≤ 32) × (self.old.model.input_count ≤ 24) }
@@ -221,6 +214,7 @@ impl Reader {
         self.leave_gates()
     }
 
+    #[tactic(auto, unfolding(crate::specs::Advance::gate_on))]
     fn gate(&mut self, gates: &mut [Gate], at: u32, gate: Gate) -> Result<(), ReadFault>
         requires maximum_bound { (self.old.model.maximum ≤ 4096) × (self.old.place < length gates.old) }
         requires latch_count_bound { (self.old.model.latch_count ≤ 32) × (self.old.model.input_count ≤ 24) }
@@ -239,6 +233,7 @@ impl Reader {
         self.leave_gates()
     }
 
+    #[tactic(auto, unfolding(crate::specs::Advance::symbol_on))]
     fn symbol(
         &mut self,
         at: u32,
@@ -276,6 +271,7 @@ impl Reader {
     }
 
     // Takes line `at` of the file: what it means depends on the section reached.
+    #[tactic(auto, unfolding(crate::specs::Advance::advance))]
     pub(crate) fn take(&mut self, gates: &mut [Gate], at: u32, line: Line) -> Result<(), ReadFault>
         requires { Fits self.old (length gates.old) }
         ensures { both result self.new gates.new ≡ advance at (content_of line.entry) (state_of self.old gates.old) }
@@ -317,6 +313,7 @@ impl Reader {
     }
 
     // Ends the file where line `at` would stand.
+    #[tactic(auto, unfolding(crate::specs::Advance::end_on))]
     pub(crate) fn end(&self, at: u32) -> Result<(), ReadFault>
         requires { self.now.model.input_count ≤ 24 }
         ensures { result ≡ end_on at self.now }
@@ -331,8 +328,8 @@ impl Reader {
         requires { self.now.model.input_count ≤ 24 }
         ensures { result ≡ sides_on self.now.model }
     {
-        let (events, answers) = side_counts(&self.model.inputs[0..self.model.input_count]);
-        if events <= MAX_SIDE && answers <= MAX_SIDE {
+        let inputs = &self.model.inputs[..self.model.input_count];
+        if on_side(inputs, Side::Event) <= MAX_SIDE && on_side(inputs, Side::Answer) <= MAX_SIDE {
             Ok(())
         } else {
             Err(ReadFault::SideTooLarge)

@@ -2,7 +2,7 @@
 
 ghost use Rattle.std.specs.Prelude.{◌≡◌, ◌≤◌, [], ◌∷◌, ◌++◌, map, length, drop};
 ghost use Rattle.text.specs.Number.{decimal};
-ghost use Rattle.aiger.specs.Line.{texts, header_text};
+ghost use Rattle.aiger.specs.Line.{Content, texts, header_text};
 ghost use Rattle.aiger.specs.Format.{header_for, input_line, latch_line, gate_line, symbol_texts, answer_symbols, written, RoundTrip};
 ghost use Rattle.aiger.specs.Writing.{put, answer_line, wrote, write_of};
 
@@ -99,42 +99,11 @@ impl<'a> Writer<'a> {
         self.field(header.gates, b'\n');
     }
 
-    fn inputs(&mut self, inputs: &[Input])
-        ensures { self.new ≡ put (texts (map (λ i. input_line i.literal) inputs.now)) self.old }
+    fn lines<T: Line>(&mut self, items: &[T])
+        ensures { self.new ≡ put (texts (map T.line items.now)) self.old }
     {
-        for input in inputs {
-            self.field(input.literal.code, b'\n');
-        }
-    }
-
-    fn latch(&mut self, latch: Latch)
-        ensures { self.new ≡ put (texts (latch_line latch ∷ [])) self.old }
-    {
-        self.field(latch.literal.code, b' ');
-        self.field(latch.next.code, b'\n');
-    }
-
-    fn latches(&mut self, latches: &[Latch])
-        ensures { self.new ≡ put (texts (map latch_line latches.now)) self.old }
-    {
-        for latch in latches {
-            self.latch(*latch);
-        }
-    }
-
-    fn gate(&mut self, gate: Gate)
-        ensures { self.new ≡ put (texts (gate_line gate ∷ [])) self.old }
-    {
-        self.field(gate.output.code, b' ');
-        self.field(gate.left.code, b' ');
-        self.field(gate.right.code, b'\n');
-    }
-
-    fn gates(&mut self, gates: &[Gate])
-        ensures { self.new ≡ put (texts (map gate_line gates.now)) self.old }
-    {
-        for gate in gates {
-            self.gate(*gate);
+        for item in items {
+            item.write(self);
         }
     }
 
@@ -154,9 +123,8 @@ impl<'a> Writer<'a> {
         ensures { self.new ≡ put (symbol_texts (answer_symbols 0 inputs.now)) self.old }
     {
         for (position, input) in inputs.iter().enumerate() {
-            match input.side {
-                Side::Answer => self.symbol(position as u16),
-                Side::Event => {}
+            if input.side == Side::Answer {
+                self.symbol(position as u16);
             }
         }
     }
@@ -165,10 +133,45 @@ impl<'a> Writer<'a> {
         ensures { self.new ≡ put (written model.now.«record».now model.now.gates.now) self.old }
     {
         self.header(header_of(model));
-        self.inputs(model.used_inputs());
-        self.latches(model.used_latches());
+        self.lines(model.used_inputs());
+        self.lines(model.used_latches());
         self.field(model.output().code, b'\n');
-        self.gates(model.used_gates());
+        self.lines(model.used_gates());
         self.symbols(model.used_inputs());
+    }
+}
+
+// A part of a model that has a line of its own.
+trait Line {
+    ghost line: { Self → Content };
+
+    fn write(&self, writer: &mut Writer<'_>)
+        ensures { writer.new ≡ put (texts (line self.now ∷ [])) writer.old };
+}
+
+impl Line for Input {
+    ghost line = { λ i. input_line i.literal };
+
+    fn write(&self, writer: &mut Writer<'_>) {
+        writer.field(self.literal.code, b'\n');
+    }
+}
+
+impl Line for Latch {
+    ghost line = { latch_line };
+
+    fn write(&self, writer: &mut Writer<'_>) {
+        writer.field(self.literal.code, b' ');
+        writer.field(self.next.code, b'\n');
+    }
+}
+
+impl Line for Gate {
+    ghost line = { gate_line };
+
+    fn write(&self, writer: &mut Writer<'_>) {
+        writer.field(self.output.code, b' ');
+        writer.field(self.left.code, b' ');
+        writer.field(self.right.code, b'\n');
     }
 }

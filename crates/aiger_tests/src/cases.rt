@@ -1,85 +1,37 @@
 // Files and what reading them answers, worked out by hand from the rules of the format.
 
-// A file, and the number and the line of its refusal; 0 and 0 where it is accepted.
+// A file, and the number and the line of its refusal.
 pub struct Case {
     pub file: &'static [u8],
     pub number: u8,
     pub line: u32,
 }
 
-pub static ACCEPTED: [Case; 12] = [
+pub static ACCEPTED: [&[u8]; 12] = [
     // 32 latches
-    Case {
-        file: b"aag 32 0 32 1 0\n2 2\n4 4\n6 6\n8 8\n10 10\n12 12\n14 14\n16 16\n18 18\n20 20\n22 22\n24 24\n26 26\n28 28\n30 30\n32 32\n34 34\n36 36\n38 38\n40 40\n42 42\n44 44\n46 46\n48 48\n50 50\n52 52\n54 54\n56 56\n58 58\n60 60\n62 62\n64 64\n0\n",
-        number: 0,
-        line: 0,
-    },
+    b"aag 32 0 32 1 0\n2 2\n4 4\n6 6\n8 8\n10 10\n12 12\n14 14\n16 16\n18 18\n20 20\n22 22\n24 24\n26 26\n28 28\n30 30\n32 32\n34 34\n36 36\n38 38\n40 40\n42 42\n44 44\n46 46\n48 48\n50 50\n52 52\n54 54\n56 56\n58 58\n60 60\n62 62\n64 64\n0\n",
     // a model with one latch
-    Case {
-        file: b"aag 4 2 1 1 1\n2\n4\n6 5\n8\n8 6 2\ni1 controllable_c\n",
-        number: 0,
-        line: 0,
-    },
+    b"aag 4 2 1 1 1\n2\n4\n6 5\n8\n8 6 2\ni1 controllable_c\n",
     // no symbols
-    Case {
-        file: b"aag 4 2 1 1 1\n2\n4\n6 5\n8\n8 6 2\n",
-        number: 0,
-        line: 0,
-    },
+    b"aag 4 2 1 1 1\n2\n4\n6 5\n8\n8 6 2\n",
     // a comment line and nothing after it
-    Case {
-        file: b"aag 4 2 1 1 1\n2\n4\n6 5\n8\n8 6 2\nc\n",
-        number: 0,
-        line: 0,
-    },
+    b"aag 4 2 1 1 1\n2\n4\n6 5\n8\n8 6 2\nc\n",
     // anything after a comment line
-    Case {
-        file: b"aag 4 2 1 1 1\n2\n4\n6 5\n8\n8 6 2\nc\nanything\xff without an end",
-        number: 0,
-        line: 0,
-    },
+    b"aag 4 2 1 1 1\n2\n4\n6 5\n8\n8 6 2\nc\nanything\xff without an end",
     // symbols in any order; a name may begin with a space
-    Case {
-        file: b"aag 4 2 1 1 1\n2\n4\n6 5\n8\n8 6 2\no0 bad\nl0 held\ni1  a\ni0 \t\n",
-        number: 0,
-        line: 0,
-    },
+    b"aag 4 2 1 1 1\n2\n4\n6 5\n8\n8 6 2\no0 bad\nl0 held\ni1  a\ni0 \t\n",
     // nothing but an output
-    Case {
-        file: b"aag 0 0 0 1 0\n0\n",
-        number: 0,
-        line: 0,
-    },
+    b"aag 0 0 0 1 0\n0\n",
     // a constant output
-    Case {
-        file: b"aag 0 0 0 1 0\n1\n",
-        number: 0,
-        line: 0,
-    },
+    b"aag 0 0 0 1 0\n1\n",
     // more variables than are used
-    Case {
-        file: b"aag 4096 0 0 1 0\n0\n",
-        number: 0,
-        line: 0,
-    },
+    b"aag 4096 0 0 1 0\n0\n",
     // constant operands
-    Case {
-        file: b"aag 1 0 0 1 1\n2\n2 1 0\n",
-        number: 0,
-        line: 0,
-    },
+    b"aag 1 0 0 1 1\n2\n2 1 0\n",
     // opposite operands, a negated output
-    Case {
-        file: b"aag 2 1 0 1 1\n2\n5\n4 2 3\n",
-        number: 0,
-        line: 0,
-    },
+    b"aag 2 1 0 1 1\n2\n5\n4 2 3\n",
     // 12 event inputs and one answer input
-    Case {
-        file: b"aag 13 13 0 1 0\n2\n4\n6\n8\n10\n12\n14\n16\n18\n20\n22\n24\n26\n0\ni0 controllable_a\n",
-        number: 0,
-        line: 0,
-    },
+    b"aag 13 13 0 1 0\n2\n4\n6\n8\n10\n12\n14\n16\n18\n20\n22\n24\n26\n0\ni0 controllable_a\n",
 ];
 
 pub static HEADERS: [Case; 28] = [

@@ -1,9 +1,6 @@
 -- The one-latch model.
 use Rattle.std.specs.Prelude.{List, [], ◌∷◌, slice_set}
-use Rattle.literal.specs.declared.Literal.{Literal}
 use Rattle.circuit.specs.declared.record.Gate.{Gate}
-use Rattle.circuit.specs.declared.record.Input.{Input}
-use Rattle.circuit.specs.declared.record.Latch.{Latch}
 use Rattle.circuit.specs.declared.record.Record.{Record}
 use Rattle.circuit.specs.declared.record.Side.TheVariants.{Event, Answer}
 use Rattle.circuit.specs.Parts.{blank_record}

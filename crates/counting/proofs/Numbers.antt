@@ -1,29 +1,26 @@
 -- Counting through the numbers meets all values.
-use Rattle.std.proofs.Common.{◌≡◌, ℕ, zero, suc, ◌+◌, ◌-◌, ◌*◌, ◌/◌, ◌%◌, ◌^◌, ◌<◌, ◌≤◌, Bool, true, false, cond, eqb, List, length, get_or, set, sym, refl, ap, ◌∙◌, inl, inr, arith}
+use Rattle.std.proofs.Common.{◌&&◌, ltb, lt-ltb, [], map, Some, None, Option, MatchOption, ◌≡◌, ℕ, zero, suc, ◌+◌, ◌-◌, ◌*◌, ◌/◌, ◌%◌, ◌^◌, ◌<◌, ◌≤◌, Bool, true, false, cond, eqb, List, length, get_or, sym, refl, ap, ◌∙◌, arith}
 use native.Mathlib.Nat.{pow-succ'}
-use Rattle.std.proofs.lemmas.List.{get_or-set_same, get_or-set_other, length-set}
-use Rattle.std.proofs.lemmas.Bool.{cases_eq}
+use Rattle.std.specs.Int as word
+use Rattle.std.specs.Prelude.{bit_and}
+use Rattle.std.proofs.lemmas.Nat.Bits.{bit_at_lowest, bit_at-suc, shr_and_one}
+use Rattle.std.proofs.lemmas.Bool.{and_parts, and_from, true≢false}
+use Rattle.std.proofs.lemmas.List.FromFn.{get_or-map-range_with_len, length-map-range_with_len}
+use Rattle.std.specs.List.{range_with_len, AllWithin, HoldsAt}
 use Rattle.literal.specs.declared.Literal.{Literal}
 use Rattle.literal.specs.Truth.{Values, values_of}
 use Rattle.sat.specs.Clauses.{Clause, satisfies, all_true, Unsatisfiable}
 use Rattle.sat.specs.Faults.{in_range, all_in_range}
 use Rattle.sat.proofs.Laws.{all_agrees, satisfies_agrees}
-use Rattle.counting.specs.Numbers.{bit_at, values_at}
+use Rattle.counting.specs.Numbers.{bit_at, values_at, table_at}
 
--- one more variable takes the lowest bit of what is left of the number
-pub spread_more : (values : List Bool) (n rest x : ℕ) → 1 ≤ x → x < length values
-    → ((v : ℕ) → 0 < v → v < x → get_or values v false ≡ bit_at n (v - 1)) → ((j : ℕ) → bit_at rest j ≡ bit_at n (x - 1 + j))
-    → ((v : ℕ) → 0 < v → v < x + 1 → get_or (set values x (eqb (rest % 2) 1)) v false ≡ bit_at n (v - 1))
-    × ((j : ℕ) → bit_at (rest / 2) j ≡ bit_at n (x + 1 - 1 + j)) × (length (set values x (eqb (rest % 2) 1)) ≡ length values)
-spread_more values n rest x one h sofar tail = (
-  λ v p l. elim (cases_eq v x) [
-    | inl q ↦ (let z : x - 1 + 0 ≡ v - 1 = omega arith in
-        ap (λ i. get_or (set values x (eqb (rest % 2) 1)) i false) q ∙ get_or-set_same values x (eqb (rest % 2) 1) false h ∙ tail 0 ∙ ap (bit_at n) z)
-    | inr d ↦ (get_or-set_other values x v (eqb (rest % 2) 1) false d ∙ sofar v p (omega arith))
-  ],
-  λ j. (let z : x - 1 + suc j ≡ x + 1 - 1 + j = omega arith in tail (suc j) ∙ ap (bit_at n) z),
-  length-set values x (eqb (rest % 2) 1),
-)
+shifted : (n k : ℕ) → eqb (word.bit_at n k) 1 ≡ bit_at n k
+shifted n zero = ap (λ x. eqb x 1) (bit_at_lowest n)
+shifted n (suc k) = ap (λ x. eqb x 1) (bit_at-suc n k) ∙ shifted (n / 2) k
+
+-- a bit as the code reads it
+pub bit_read : (n k : ℕ) → eqb (bit_and (n / 2 ^ k) 1) 1 ≡ bit_at n k
+bit_read n k = ap (λ x. eqb x 1) (shr_and_one n k) ∙ shifted n k
 
 -- the number whose bits are the values of variables 1 to V
 encode : Values → ℕ → ℕ
@@ -70,26 +67,30 @@ tried_all V n cs assumed r a e t w s h =
     (all_agrees V (values_at k) w (encode_value w V) assumed a ∙ h)
 
 -- a table of a number's values agrees with them
-table_agrees : (V n : ℕ) (table : List Bool) → V ≤ 20 → ((v : ℕ) → 0 < v → v < 21 → get_or table v false ≡ bit_at n (v - 1))
-    → (x : ℕ) → 0 < x → x ≤ V → values_at n x ≡ values_of table x
-table_agrees V n table h t x p l = sym (t x p (omega arith))
+table_agrees : (V n : ℕ) → V ≤ 20 → (x : ℕ) → 0 < x → x ≤ V → values_at n x ≡ values_of (table_at n) x
+unfolding table_at
+table_agrees V n h x p l =
+    sym (get_or-map-range_with_len (λ v. ltb 0 v && values_at n v) 0 21 x x false (omega arith) (omega arith)
+    ∙ ap (λ b. b && values_at n x) (lt-ltb 0 x p))
 
-pub table_satisfies : (V n : ℕ) (table : List Bool) (cs : List Clause) → V ≤ 20 → ((v : ℕ) → 0 < v → v < 21 → get_or table v false ≡ bit_at n (v - 1))
-    → all_in_range V cs ≡ true → satisfies (values_at n) cs ≡ satisfies (values_of table) cs
-table_satisfies V n table cs h t r = satisfies_agrees V (values_at n) (values_of table) (table_agrees V n table h t) cs r
+-- whether the values in a table satisfy the clauses and make the assumptions true
+abbrev pub fits : List Clause → List Literal → List Bool → Bool
+fits cs assumed t = satisfies (values_of t) cs && all_true (values_of t) assumed
 
-pub table_all : (V n : ℕ) (table : List Bool) (assumed : List Literal) → V ≤ 20 → ((v : ℕ) → 0 < v → v < 21 → get_or table v false ≡ bit_at n (v - 1))
-    → in_range V assumed ≡ true → all_true (values_at n) assumed ≡ all_true (values_of table) assumed
-table_all V n table assumed h t r = all_agrees V (values_at n) (values_of table) (table_agrees V n table h t) assumed r
+abbrev pub tables : ℕ → List (List Bool)
+tables n = map table_at (range_with_len 0 n)
 
--- the values of one number more are tried
-pub tried_more : (V n : ℕ) (table : List Bool) (cs : List Clause) (assumed : List Literal) → V ≤ 20
-    → ((v : ℕ) → 0 < v → v < 21 → get_or table v false ≡ bit_at n (v - 1)) → all_in_range V cs ≡ true → in_range V assumed ≡ true
-    → (satisfies (values_of table) cs ≡ true → all_true (values_of table) assumed ≡ true → ⊥)
-    → ((k : ℕ) → k < n → satisfies (values_at k) cs ≡ true → all_true (values_at k) assumed ≡ true → ⊥)
-    → (k : ℕ) → k < n + 1 → satisfies (values_at k) cs ≡ true → all_true (values_at k) assumed ≡ true → ⊥
-tried_more V n table cs assumed h t r a off sofar k l s u = elim (cases_eq k n) [
-  | inl e ↦ (off (sym (table_satisfies V n table cs h t r) ∙ ap (λ x. satisfies (values_at x) cs) (sym e) ∙ s)
-      (sym (table_all V n table assumed h t a) ∙ ap (λ x. all_true (values_at x) assumed) (sym e) ∙ u))
-  | inr d ↦ sofar k (omega arith) s u
-]
+-- the first of all numbers' values that do, or none
+pub tried : (V n : ℕ) (cs : List Clause) (assumed : List Literal) (r : Option (List Bool)) → V ≤ 20 → all_in_range V cs ≡ true → in_range V assumed ≡ true → n ≡ 2 ^ V
+    → MatchOption r (AllWithin (λ t. fits cs assumed t ≡ false) (tables n) 0 (length (tables n)))
+    (λ t. (fits cs assumed t ≡ true) × (i : ℕ) × (i < length (tables n)) × HoldsAt (λ y. y ≡ t) (tables n) i × AllWithin (λ y. fits cs assumed y ≡ false) (tables n) 0 i)
+    → MatchOption r (Unsatisfiable cs assumed) (λ t. (satisfies (values_of t) cs ≡ true) × (all_true (values_of t) assumed ≡ true))
+tried V n cs assumed (Some t) h r a e m = and_parts (satisfies (values_of t) cs) (all_true (values_of t) assumed) m.0
+tried V n cs assumed None h r a e m =
+    tried_all V n cs assumed r a e (λ k l s u.
+    let agree = table_agrees V k h in
+    let at : get_or (tables n) k [] ≡ table_at k = get_or-map-range_with_len table_at 0 n k k [] l (omega arith) in
+    let off = m k [] (omega arith) (omega (arith, length-map-range_with_len table_at 0 n)) in
+    true≢false
+    (sym (and_from _ _ (sym (satisfies_agrees V (values_at k) (values_of (table_at k)) agree cs r) ∙ s) (sym (all_agrees V (values_at k) (values_of (table_at k)) agree assumed a) ∙ u))
+    ∙ sym (ap (fits cs assumed) at) ∙ off))

@@ -1,4 +1,2 @@
-pub mod Cells
-pub mod Held
 pub mod Numbers
 pub mod Sizes

@@ -2,10 +2,9 @@
 #![tactic(auto)]
 
 mod answer;
-mod cells;
 mod narrow;
+mod question;
 mod search;
 pub mod solver;
-mod table;
 
 pub use solver::{Counting, MAX_VARIABLES, check};

@@ -1,42 +1,46 @@
 // The search: every number below 2 to the power of the largest variable stands for values.
 
-ghost use Rattle.std.specs.Prelude.{◌≡◌, ℕ, ◌-◌, ◌<◌, true, false, MatchOption, slice_index_or};
+ghost use Rattle.std.specs.Prelude.{◌≡◌, ◌<◌, true, ◌&&◌, MatchOption, nat_lt};
 ghost use Rattle.literal.specs.Truth.{values_of};
 ghost use Rattle.sat.specs.Clauses.{all_true, satisfies, Unsatisfiable};
-ghost use Rattle.sat.specs.Faults.{in_range};
-ghost use Rattle.counting.specs.Held.{held};
-ghost use Rattle.counting.specs.Numbers.{bit_at};
+ghost use Rattle.cells.specs.Held.{held};
+ghost use Rattle.counting.specs.Numbers.{values_at, table_at};
 
-use crate::solver::Counting;
-use literal::Literal;
-use sat::all_hold;
+use crate::question::Question;
+use sat::{Solver, all_hold};
+use std::array;
 
 // A place for each variable, and for variable 0.
 pub const PLACES: usize = 21;
 
-// The values of a number: its lowest bit is variable 1.
-fn values_of(number: u32) -> [bool; PLACES]
-    ensures { (v : ℕ) → 0 < v → v < 21 → slice_index_or result v false ≡ bit_at number (v - 1) }
+// The value of a variable in a number, whose lowest bit is variable 1.
+fn value_of(number: u32, variable: usize) -> bool
+    requires { variable < 21 }
+    ensures { result ≡ (nat_lt 0 variable && values_at number variable) }
 {
-    let mut values = [false; PLACES];
-    let mut rest = number;
-    for variable in 1..PLACES {
-        values[variable] = rest % 2 == 1;
-        rest /= 2;
-    }
-    values
+    variable > 0 && number >> (variable - 1) & 1 == 1
 }
 
-// Values that satisfy every clause and make every assumption true, if there are any.
-pub fn solve(solver: &Counting, assumed: &[Literal]) -> Option<[bool; PLACES]>
-    requires { in_range solver.now.variables assumed.now ≡ true }
-    ensures { MatchOption result (Unsatisfiable (held solver.now.table) assumed.now) (λ t. (satisfies (values_of t) (held solver.now.table) ≡ true) × (all_true (values_of t) assumed.now ≡ true)) }
+fn values_of(number: u32) -> [bool; PLACES]
+    ensures { result ≡ table_at number }
 {
-    for number in 0..1u32 << solver.largest() {
-        let values = values_of(number);
-        if solver.satisfied(&values) && all_hold(assumed, &values) {
-            return Some(values);
-        }
+    array::from_fn(|variable| value_of(number, variable))
+}
+
+impl<'q, 'a> Question<'q, 'a> {
+    // Whether values satisfy every clause and make every assumption true.
+    fn accepts(&self, values: &[bool]) -> bool
+        ensures { result ≡ (satisfies (values_of values.now) (held self.now.solver.now.cells) && all_true (values_of values.now) self.now.assumed.now) }
+    {
+        self.solver.satisfied(values) && all_hold(self.assumed, values)
     }
-    None
+
+    // Such values, if there are any.
+    pub fn solve(&self) -> Option<[bool; PLACES]>
+        ensures { MatchOption result (Unsatisfiable (held self.now.solver.now.cells) self.now.assumed.now) (λ t. (satisfies (values_of t) (held self.now.solver.now.cells) ≡ true) × (all_true (values_of t) self.now.assumed.now ≡ true)) }
+    {
+        (0..1u32 << self.solver.variables())
+            .map(values_of)
+            .find(|values| self.accepts(values))
+    }
 }

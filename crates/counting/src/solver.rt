@@ -5,13 +5,11 @@ ghost use Rattle.std.specs.Result.{result_err};
 ghost use Rattle.literal.specs.Truth.{values_of};
 ghost use Rattle.sat.specs.Clauses.{satisfies};
 ghost use Rattle.sat.specs.Faults.{all_in_range};
-ghost use Rattle.counting.specs.Cells.{Coded, Small};
-ghost use Rattle.counting.specs.Held.{used_cells, held, room};
+ghost use Rattle.cells.specs.Held.{held, room};
 ghost use Rattle.counting.specs.Sizes.{size_fault, granted};
 
-use crate::answer::answer;
-use crate::narrow::narrow_marks;
-use crate::table::Table;
+use crate::question::Question;
+use cells::Cells;
 use literal::Literal;
 use sat::{
     Answer, NarrowingSolver, Solver, SolverFault, check_decide, check_hold, check_keep,
@@ -31,80 +29,60 @@ pub fn check(_numbers: usize, variables: usize) -> Result<(), SolverFault>
     }
 }
 
-// The cells in use hold `count` clauses over variables 1 to `variables`, and nothing else.
+// Clauses over variables 1 to `variables`.
 #[derive(Drop)]
 pub struct Counting<'a> {
-    table: Table<'a>,
-    count: usize,
+    cells: Cells<'a>,
     variables: usize,
-    ghost within: { table.used ≤ room table },
-    ghost coded: { Coded (used_cells table) },
-    ghost small: { Small (used_cells table) },
-    ghost counted: { count ≡ length (held table) },
-    ghost ranged: { all_in_range variables (held table) ≡ true },
+    ghost ranged: { all_in_range variables (held cells) ≡ true },
     ghost few: { variables ≤ 20 },
 }
 
 impl<'a> Counting<'a> {
     // A solver that holds no clause yet. Over what the check turns down it has no variables and no cells.
     pub fn new(numbers: &'a mut [u32], variables: usize) -> Counting<'a>
-        ensures clauses { held result.table ≡ [] }
+        ensures clauses { held result.cells ≡ [] }
         ensures variables { result.variables ≡ granted (size_fault (length numbers.old) variables) variables }
-        ensures cells { room result.table ≡ granted (size_fault (length numbers.old) variables) (length numbers.old) }
+        ensures cells { room result.cells ≡ granted (size_fault (length numbers.old) variables) (length numbers.old) }
     {
         let (cells, variables) = match check(numbers.len(), variables) {
             Ok(()) => (numbers.len(), variables),
             Err(_) => (0, 0),
         };
-        let table = Table::new(&mut numbers[0..cells]);
         Counting {
-            table,
-            count: 0,
+            cells: Cells::new(&mut numbers[..cells]),
             variables,
         }
     }
 
-    pub(crate) fn largest(&self) -> usize
-        ensures { result ≡ self.now.variables }
-    {
-        self.variables
-    }
-
     // Whether values satisfy every clause.
     pub(crate) fn satisfied(&self, values: &[bool]) -> bool
-        ensures { result ≡ satisfies (values_of values.now) (held self.now.table) }
+        ensures { result ≡ satisfies (values_of values.now) (held self.now.cells) }
     {
-        self.table.satisfied(values)
+        self.cells.clauses().all(|clause| clause.holds(values))
     }
 }
 
 impl<'a> Solver for Counting<'a> {
-    ghost clauses = { λ s. held s.table };
-
-    ghost variable_count = { λ s. s.variables };
-
-    ghost cell_count = { λ s. room s.table };
+    ghost meaning = { λ s. record { clauses = held s.cells; variables = s.variables; cells = room s.cells } };
 
     fn variables(&self) -> usize {
-        self.largest()
+        self.variables
     }
 
     fn cells(&self) -> usize {
-        self.table.len()
+        self.cells.room()
     }
 
     fn hold(&mut self, clause: &[Literal]) -> Result<(), SolverFault> {
-        let free = self.cells() - self.table.used();
-        check_hold(clause, self.variables, free)?;
-        self.table.push(clause);
-        self.count += 1;
+        check_hold(clause, self.variables, self.cells.free())?;
+        self.cells.push(clause);
         Ok(())
     }
 
     fn keep(&mut self, kept: usize) -> Result<(), SolverFault> {
-        check_keep(self.count, kept)?;
-        self.table.cut(kept);
-        self.count = kept;
+        check_keep(self.cells.count(), kept)?;
+        self.cells.cut(kept);
         Ok(())
     }
 
@@ -115,7 +93,11 @@ impl<'a> Solver for Counting<'a> {
         marks: &mut [u8],
     ) -> Result<Answer, SolverFault> {
         check_decide(assumed, self.variables, values.len(), marks.len())?;
-        Ok(answer(self, assumed, values, marks))
+        let question = Question {
+            solver: self,
+            assumed,
+        };
+        Ok(question.answer(values, marks))
     }
 }
 
@@ -128,9 +110,13 @@ impl<'a> NarrowingSolver for Counting<'a> {
         marks: &mut [u8],
     ) -> Result<Answer, SolverFault> {
         check_narrow(assumed, self.variables, first, values.len(), marks.len())?;
-        let found = answer(self, assumed, values, marks);
+        let question = Question {
+            solver: self,
+            assumed,
+        };
+        let found = question.answer(values, marks);
         if found == Answer::No {
-            narrow_marks(self, assumed, first, marks);
+            question.narrow(first, marks);
             fill_front(values, self.variables + 1, 0);
         }
         Ok(found)

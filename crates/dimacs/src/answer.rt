@@ -1,5 +1,8 @@
 // What is printed.
 
+ghost use Rattle.std.specs.Prelude.{Some};
+ghost use Rattle.dimacs.specs.Verdicts.{reason};
+
 use dimacs_text::DimacsFault;
 use sat::SolverFault;
 use std::alloc::{AllocError, Global};
@@ -28,21 +31,20 @@ pub fn values_text(heap: Global, values: &[u8]) -> Result<String, AllocError> {
 pub struct Reason(pub DimacsFault);
 
 impl fmt::Display for Reason {
+    ghost output = { λ r. Some (reason r.0) };
+
     fn fmt<W: fmt::Write>(&self, f: &mut fmt::Formatter<W>) -> fmt::Result {
         match self.0 {
-            DimacsFault::Refused(SolverFault::SizeUnfit) => write!(
-                f,
-                "there are more than 8,192 variables"
+            DimacsFault::Refused(SolverFault::SizeUnfit) => f.write_str(
+                "there are more than 8,192 variables",
             ),
-            DimacsFault::Refused(SolverFault::VariableOutOfRange) => write!(
-                f,
-                "a literal's variable is larger than the header says"
+            DimacsFault::Refused(SolverFault::VariableOutOfRange) => f.write_str(
+                "a literal's variable is larger than the header says",
             ),
-            DimacsFault::Refused(SolverFault::TooManyLiterals) => write!(
-                f,
-                "a clause has more than 64 literals"
+            DimacsFault::Refused(SolverFault::TooManyLiterals) => f.write_str(
+                "a clause has more than 64 literals",
             ),
-            fault => write!(f, "{fault}"),
+            fault => fault.fmt(f),
         }
     }
 }

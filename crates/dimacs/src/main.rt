@@ -5,7 +5,6 @@ mod answer;
 mod solve;
 
 use answer::{Reason, values_text};
-use sat::Answer;
 use solve::solve;
 use std::io::Read;
 use std::process::ExitCode;
@@ -14,11 +13,11 @@ fn run(rt: &HostRuntime) -> anyhow::Result<ExitCode> {
     let mut text = Vec::new(rt.alloc());
     rt.stdin().read_to_end(&mut text)?;
     match solve(rt.alloc(), &text) {
-        Ok((Answer::Yes, values)) => {
+        Ok(Some(values)) => {
             let lines = values_text(rt.alloc(), &values)?;
             println!(rt; "s SATISFIABLE\n{lines}")?;
         }
-        Ok((Answer::No, _)) => println!(rt; "s UNSATISFIABLE")?,
+        Ok(None) => println!(rt; "s UNSATISFIABLE")?,
         Err(fault) => {
             let reason = Reason(fault);
             eprintln!(rt; "dimacs: {reason}")?;

@@ -1,7 +1,8 @@
 // The answer to a DIMACS text.
 
 ghost use Rattle.std.specs.Prelude.{◌≡◌, ℕ, ◌+◌, ◌*◌, ◌^◌, ◌<◌, length, IfOk};
-ghost use Rattle.dimacs.specs.Verdicts.{Decides, Settles};
+ghost use Rattle.std.specs.Option.{option_map};
+ghost use Rattle.dimacs.specs.Verdicts.{said, Decides, Settles};
 
 use dimacs_text::{DimacsFault, Header, entries, load, read_header};
 use literal::Literal;
@@ -25,7 +26,7 @@ fn decide(
     numbers: &mut [u32],
     values: &mut [u8],
 ) -> Result<Answer, DimacsFault>
-    ensures { IfOk result (λ a. Decides entries.now header values.new a) }
+    ensures { IfOk result (λ a. Decides entries.now header (said values.new a)) }
 {
     let variables = usize::from(header.variables);
     check(numbers.len(), variables)?;
@@ -35,15 +36,17 @@ fn decide(
     Ok(answer)
 }
 
-// What a text's clauses answer: values that satisfy them, a byte for each variable, or none.
-pub fn solve(heap: Global, text: &[u8]) -> Result<(Answer, Vec<u8>), DimacsFault>
-    ensures { IfOk result (λ p. Settles text.now p.1.items p.0) }
+// Values that satisfy a text's clauses, a byte for each variable, or none where nothing does.
+pub fn solve(heap: Global, text: &[u8]) -> Result<Option<Vec<u8>>, DimacsFault>
+    ensures { IfOk result (λ r. Settles text.now (option_map (λ v. v.items) r)) }
 {
     let (header, rest) = read_header(text)?;
     let entries = entries(heap, rest)?;
     let variables = usize::from(header.variables);
     let mut numbers = vec![in heap; 0u32; memory(variables, entries.len())]?;
     let mut values = vec![in heap; 0u8; variables + 1]?;
-    let answer = decide(&entries, header, &mut numbers, &mut values)?;
-    Ok((answer, values))
+    match decide(&entries, header, &mut numbers, &mut values)? {
+        Answer::Yes => Ok(Some(values)),
+        Answer::No => Ok(None),
+    }
 }

@@ -1,5 +1,4 @@
 pub mod Splits
 pub mod Spellings
 pub mod Readings
-pub mod Heads
 pub mod Loadings

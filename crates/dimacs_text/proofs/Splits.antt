@@ -1,8 +1,8 @@
 -- A text taken apart into lines and words.
-use Rattle.std.proofs.Common.{◌≡◌, ℕ, zero, suc, ◌+◌, ◌-◌, ◌<◌, ◌≤◌, Bool, true, false, cond, not, eqb, List, [], ◌∷◌, length, get_or, take, drop, Some, None, Option, sym, refl, ap, ◌∙◌, subst, inl, inr, arith, Bor, MatchOption}
+use Rattle.std.proofs.Common.{◌≡◌, ℕ, zero, suc, ◌+◌, ◌-◌, ◌<◌, ◌≤◌, Bool, true, false, cond, not, eqb, List, [], ◌∷◌, length, get_or, take, drop, Some, None, Option, sym, refl, ap, ◌∙◌, subst, inl, inr, arith}
 use Rattle.std.proofs.lemmas.List.{length-drop, get_or-drop, drop_all}
 use Rattle.std.proofs.lemmas.Bool.{cond-true, cond-false, cases_lt, false≢true}
-use Rattle.text.specs.Cut.{Parts, cut_at, onto, parts_of}
+use Rattle.text.specs.Cut.{Parts, cut_at, onto}
 use Rattle.dimacs_text.specs.Words.{blank, extend, words, lines}
 
 -- blanks before a word
@@ -49,21 +49,19 @@ words_at bs rest front back m n h f ne start e b g stop fe be =
 -- a line, and the lines after it
 abbrev pub Lined : List ℕ → Option Parts → Type 0
 Lined bs None = lines bs ≡ bs ∷ []
-Lined bs (Some p) = (lines bs ≡ p.front ∷ lines p.back) × (length p.back < length bs)
+Lined bs (Some p) = lines bs ≡ p.front ∷ lines p.back
 
 lined_on : (b : ℕ) (bs : List ℕ) (t : Bool) (r : Option Parts) → eqb b 10 ≡ t → Lined bs r → Lined (b ∷ bs) (cond t (Some (record { front = []; back = bs })) (onto b r))
-lined_on b bs true r e w = (cond-true _ _ _ e, omega arith)
+lined_on b bs true r e w = cond-true _ _ _ e
 lined_on b bs false None e w = cond-false _ _ _ e ∙ ap (extend b) w
-lined_on b bs false (Some p) e w = (cond-false _ _ _ e ∙ ap (extend b) w.0, omega (arith, w.1))
+lined_on b bs false (Some p) e w = cond-false _ _ _ e ∙ ap (extend b) w
 
-pub lined : (bs : List ℕ) → Lined bs (cut_at 10 bs)
+lined : (bs : List ℕ) → Lined bs (cut_at 10 bs)
 lined [] = refl
 lined (b ∷ bs) = lined_on b bs (eqb b 10) (cut_at 10 bs) refl (lined bs)
 
-pub line_of : (bs : List ℕ) (r : Option (Bor (List ℕ) × Bor (List ℕ))) → parts_of r ≡ cut_at 10 bs
-    → MatchOption r (lines bs ≡ bs ∷ []) (λ p. (lines bs ≡ p.0.now ∷ lines p.1.now) × (length p.1.now < length bs))
-line_of bs None e = subst (λ (x : Option Parts). Lined bs x) (sym e) (lined bs)
-line_of bs (Some p) e = subst (λ (x : Option Parts). Lined bs x) (sym e) (lined bs)
+pub line_none : (bs : List ℕ) → None ≡ cut_at 10 bs → lines bs ≡ bs ∷ []
+line_none bs e = subst (λ (x : Option Parts). Lined bs x) (sym e) (lined bs)
 
-pub first_of : (ws : List (List ℕ)) (v w : List ℕ) (vs xs : List (List ℕ)) → ws ≡ v ∷ vs → ws ≡ w ∷ xs → v ≡ w
-first_of ws v w vs xs e f = cc
+pub line_some : (bs front back : List ℕ) → Some (record { front = front; back = back }) ≡ cut_at 10 bs → lines bs ≡ front ∷ lines back
+line_some bs front back e = subst (λ (x : Option Parts). Lined bs x) (sym e) (lined bs)

@@ -1,4 +1,5 @@
 pub mod Words
+pub mod Lines
 pub mod Faults
 pub mod Entries
 pub mod Headers

@@ -8,34 +8,28 @@ use literal::Literal;
 use text::number;
 
 // The largest variable that a literal's code can hold.
-const LAST_VARIABLE: u16 = 32767;
+const LAST_VARIABLE: u16 = u16::MAX / 2;
 
 // The variable that some digits spell.
 fn variable(digits: &[u8]) -> Option<u16>
     ensures { MatchOption result ((v : ℕ) → v ≤ 32767 → digits.now ≢ decimal v) (λ v. (digits.now ≡ decimal v) × (v ≤ 32767)) }
 {
-    let value = number(digits)?;
-    if value <= LAST_VARIABLE {
-        Some(value)
-    } else {
-        None
-    }
+    number(digits).filter(|variable| *variable <= LAST_VARIABLE)
 }
 
 // The entry that a word spells.
 pub fn entry(word: &[u8]) -> Option<Literal>
     ensures { MatchOption result (Unspelled word.now) (λ l. (word.now ≡ spelling l) × Writable l) }
 {
-    if word.len() > 0 && word[0] == b'-' {
-        let (_, digits) = word.split_at(1);
-        let variable = variable(digits)?;
-        if variable == 0 {
-            return None;
-        }
-        return Some(Literal {
-            code: 2 * variable + 1,
-        });
+    let [b'-', digits @ ..] = word else {
+        let variable = variable(word)?;
+        return Some(Literal { code: 2 * variable });
+    };
+    let variable = variable(digits)?;
+    if variable == 0 {
+        return None;
     }
-    let variable = variable(word)?;
-    Some(Literal { code: 2 * variable })
+    Some(Literal {
+        code: 2 * variable + 1,
+    })
 }

@@ -1,11 +1,11 @@
 // Why a DIMACS text is refused.
 
-ghost use Rattle.std.specs.Prelude.{◌≡◌};
+ghost use Rattle.std.specs.Prelude.{◌≡◌, Some};
 ghost use Rattle.dimacs_text.specs.declared.fault.DimacsFault.TheVariants.{MemoryShort, Refused};
-ghost use Rattle.dimacs_text.specs.Faults.{fault_number};
+ghost use Rattle.dimacs_text.specs.Faults.{fault_number, fault_reason};
 
 use sat::SolverFault;
-use std::alloc::{AllocError, AllocFailed as NotStored};
+use std::alloc::{AllocError, AllocFailed};
 use std::fmt;
 
 #[derive(Clone, Copy, PartialEq, Eq, Debug)]
@@ -35,6 +35,7 @@ impl DimacsFault {
     }
 }
 
+// These conversions are written out, since a contract reads which refusal they give, and a derived one does not say it.
 impl From<AllocError> for DimacsFault {
     ghost from_gives = { λ _ r. r ≡ MemoryShort };
 
@@ -43,10 +44,10 @@ impl From<AllocError> for DimacsFault {
     }
 }
 
-impl<T: Drop> From<NotStored<T>> for DimacsFault {
+impl<T: Drop> From<AllocFailed<T>> for DimacsFault {
     ghost from_gives = { λ _ r. r ≡ MemoryShort };
 
-    fn from(_error: NotStored<T>) -> DimacsFault {
+    fn from(_error: AllocFailed<T>) -> DimacsFault {
         DimacsFault::MemoryShort
     }
 }
@@ -59,22 +60,25 @@ impl From<SolverFault> for DimacsFault {
     }
 }
 
+// Written out, since a derived `Display` does not say which text it writes.
 impl fmt::Display for DimacsFault {
+    ghost output = { λ e. Some (fault_reason e) };
+
     fn fmt<W: fmt::Write>(&self, f: &mut fmt::Formatter<W>) -> fmt::Result {
         match *self {
-            DimacsFault::HeaderMissing => write!(f, "there is no line `p cnf VARIABLES CLAUSES`"),
-            DimacsFault::HeaderMalformed => write!(
-                f,
-                "the first line that is no comment is not `p cnf VARIABLES CLAUSES`, or a number in it is over 65,535"
+            DimacsFault::HeaderMissing => f.write_str("there is no line `p cnf VARIABLES CLAUSES`"),
+            DimacsFault::HeaderMalformed => f.write_str(
+                "the first line that is no comment is not `p cnf VARIABLES CLAUSES`, or a number in it is over 65,535",
             ),
-            DimacsFault::EntryMalformed => write!(
-                f,
-                "a word among the clauses is not a literal: a number up to 32,767, with `-` before it for a negation"
+            DimacsFault::EntryMalformed => f.write_str(
+                "a word among the clauses is not a literal: a number up to 32,767, with `-` before it for a negation",
             ),
-            DimacsFault::ClauseUnfinished => write!(f, "the last clause does not end in 0"),
-            DimacsFault::CountWrong => write!(f, "the clauses are not as many as the header says"),
-            DimacsFault::MemoryShort => write!(f, "there is too little memory"),
-            DimacsFault::Refused(fault) => write!(f, "{fault}"),
+            DimacsFault::ClauseUnfinished => f.write_str("the last clause does not end in 0"),
+            DimacsFault::CountWrong => f.write_str(
+                "the clauses are not as many as the header says",
+            ),
+            DimacsFault::MemoryShort => f.write_str("there is too little memory"),
+            DimacsFault::Refused(fault) => fault.fmt(f),
         }
     }
 }

@@ -17,6 +17,7 @@ mod clauses;
 
 pub use clauses::load;
 
-// Words, and one entry.
+// Lines, words, and one entry.
 mod entry;
+mod lines;
 mod words;

@@ -14,7 +14,8 @@ use Rattle.game.proofs.Bits.{bit_and_lem, same_bits}
 use Rattle.encoding.specs.Literals.{signed, with_signs, cared, number_in, care_of}
 use Rattle.encoding.specs.Clauses.{not_all}
 use Rattle.encoding.specs.Laws.{MarksSay}
-use Rattle.encoding.proofs.Bits.{low_from, half_from, from_below, from_bit}
+use Rattle.bits.proofs.Numbers.{from_bits_below}
+use Rattle.encoding.proofs.Bits.{low_from, half_from, from_bit}
 use Rattle.encoding.proofs.Sizes.{negation_variable}
 
 -- a negation is true exactly where the literal is not
@@ -204,7 +205,7 @@ mark_bits ms j = from_bit (map (λ m. eqb m 1) ms) j ∙ elim (cases_lt j (lengt
 ]
 
 mark_below : (ms : List ℕ) → care_of ms < 2 ^ length ms
-mark_below ms = subst (λ n. care_of ms < 2 ^ n) (length-map ms (λ m. eqb m 1)) (from_below (map (λ m. eqb m 1) ms))
+mark_below ms = subst (λ n. care_of ms < 2 ^ n) (length-map ms (λ m. eqb m 1)) (from_bits_below (map (λ m. eqb m 1) ms))
 
 marked_true : (v : Values) (ls : List Literal) (n : ℕ) (ms : List ℕ) → length ms ≤ length ls
     → all_true v (marked (with_signs ls n) ms) ≡ agrees (care_of ms) (bit_and n (care_of ms)) (number_in v ls)

@@ -6,12 +6,12 @@ use Rattle.literal.specs.Truth.{Values, truth}
 use Rattle.circuit.specs.declared.record.Side.TheVariants.{Event, Answer}
 use Rattle.encoding.specs.Literals.{latch_literals, side_literals, number_in}
 use Rattle.encoding.specs.Laws.{SaidInRange, SaidByLiterals, MarkedRow}
-use Rattle.encoding.proofs.Bits.{from_below}
+use Rattle.bits.proofs.Numbers.{from_bits_below}
 use Rattle.encoding.proofs.Meaning.{signs_decide, marks_say}
 use Rattle.encoding.proofs.Parts.{latches_length, events_length, answers_length}
 
 number_below : (v : Values) (ls : List Literal) (k : ℕ) → length ls ≡ k → number_in v ls < 2 ^ k
-number_below v ls k e = subst (λ n. number_in v ls < 2 ^ n) (length-map ls (truth v) ∙ e) (from_below (map (truth v) ls))
+number_below v ls k e = subst (λ n. number_in v ls < 2 ^ n) (length-map ls (truth v) ∙ e) (from_bits_below (map (truth v) ls))
 
 pub said_in_range : SaidInRange
 said_in_range r gs h v = record {

@@ -3,7 +3,8 @@ use Rattle.std.proofs.Common.{◌≡◌, ℕ, suc, ◌+◌, ◌*◌, ◌/◌, �
 use Rattle.std.specs.List.{flat_map, AllByRecursion}
 use Rattle.std.proofs.ByRecursion.{All-map, All-append, All-weaker}
 use Rattle.std.proofs.lemmas.List.{length-map, length-append}
-use Rattle.std.proofs.lemmas.Bool.{and_parts, and_from, cases_eq, eq-eqb, ne_eqb}
+use Rattle.std.proofs.lemmas.List.Folds.{list_all-append}
+use Rattle.std.proofs.lemmas.Bool.{and_from, cases_eq, eq-eqb, ne_eqb}
 use Rattle.literal.specs.declared.Literal.{Literal}
 use Rattle.literal.specs.Truth.{variable_of, negation_of}
 use Rattle.circuit.specs.declared.record.Gate.{Gate}
@@ -87,14 +88,9 @@ fit_one V n c a l k = record { ranged = and_from (in_range V c) true (ranged_all
 fit_none : (V : ℕ) → ClausesFit V 0 []
 fit_none V = record { ranged = refl; short = tt; few = omega arith }
 
-all_ranged_append : (V : ℕ) (xs ys : List Clause) → all_in_range V xs ≡ true → all_in_range V ys ≡ true → all_in_range V (xs ++ ys) ≡ true
-all_ranged_append V [] ys h g = g
-all_ranged_append V (x ∷ xs) ys h g =
-    let p = and_parts (in_range V x) (all_in_range V xs) h in and_from (in_range V x) _ p.0 (all_ranged_append V xs ys p.1 g)
-
 fit_append : (V a b n : ℕ) (xs ys : List Clause) → a + b ≤ n → ClausesFit V a xs → ClausesFit V b ys → ClausesFit V n (xs ++ ys)
 fit_append V a b n xs ys k f g = record {
-  ranged = all_ranged_append V xs ys f.ranged g.ranged;
+  ranged = list_all-append (in_range V) xs ys ∙ and_from (all_in_range V xs) (all_in_range V ys) f.ranged g.ranged;
   short = All-append (λ c. length c ≤ 64) xs ys f.short g.short;
   few = omega (arith, cells_of_append xs ys, f.few, g.few);
 }

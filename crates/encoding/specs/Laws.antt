@@ -8,7 +8,7 @@ use Rattle.circuit.specs.declared.record.Record.{Record}
 use Rattle.circuit.specs.Parts.{inputs_of}
 use Rattle.circuit.specs.Sound.{sound, event_count}
 use Rattle.circuit.specs.Step.{bit, state_count, event_numbers, answer_numbers}
-use Rattle.sat.specs.Clauses.{Clause, all_true, satisfies, marked, cells_of}
+use Rattle.sat.specs.Clauses.{Meaning, with_clauses, Clause, all_true, satisfies, marked, cells_of}
 use Rattle.sat.specs.Faults.{all_in_range}
 use Rattle.game.specs.Models.{arena_of}
 use Rattle.game.specs.Rows.{agrees, row_covers, covered, excepted, good}
@@ -112,8 +112,8 @@ pub record ClausesFit (V cells : ℕ) (cs : List Clause) : Type 0 where
 -- such clauses are held whole where so many cells are free
 abbrev pub HeldWhole : Type 0
 HeldWhole =
-    (V cells need : ℕ) (held cs : List Clause) → ClausesFit V need cs → cells_of held + need ≤ cells
-    → (held_fault V cells held cs ≡ None) × (held_after V cells held cs ≡ held ++ cs)
+    (m : Meaning) (need : ℕ) (cs : List Clause) → ClausesFit m.variables need cs → cells_of m.clauses + need ≤ m.cells
+    → (held_fault m cs ≡ None) × (held_after m cs ≡ with_clauses m (m.clauses ++ cs))
 
 -- the sizes of what the two solvers hold
 abbrev pub answer_variables : Record → ℕ

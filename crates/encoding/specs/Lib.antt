@@ -2,4 +2,3 @@ pub mod Literals
 pub mod Clauses
 pub mod Holding
 pub mod Laws
-pub mod Tables

@@ -1,5 +1,6 @@
 -- Literals of clauses that stand for a model's: signs, the literals that a mask picks, and the numbers that values hold.
 use Rattle.std.specs.Prelude.{ℕ, ◌+◌, ◌*◌, ◌/◌, Bool, cond, List, [], ◌∷◌, map, ◌==◌, nat_eq}
+use Rattle.bits.specs.Bits.{from_bits}
 use Rattle.literal.specs.declared.Literal.{Literal}
 use Rattle.literal.specs.Truth.{Values, truth, negation_of}
 use Rattle.circuit.specs.declared.record.Record.{Record}
@@ -55,11 +56,6 @@ abbrev pub cared : List Literal → ℕ → ℕ → List Literal
 cared [] care value = []
 cared (l ∷ ls) care value =
     cond (low_bit care) (signed (low_bit value) l ∷ cared ls (care / 2) (value / 2)) (cared ls (care / 2) (value / 2))
-
--- the number that has some bits, the first the lowest
-abbrev pub from_bits : List Bool → ℕ
-from_bits [] = 0
-from_bits (b ∷ bs) = cond b 1 0 + 2 * from_bits bs
 
 -- the number whose bits are the truths of literals
 abbrev pub number_in : Values → List Literal → ℕ

@@ -6,28 +6,22 @@ ghost use Rattle.encoding.specs.Clauses.{answer_base, answer_row};
 ghost use Rattle.encoding.specs.Holding.{Held, Whole};
 ghost use Rattle.encoding.specs.Laws.{answer_variables, answer_base_cells, answer_row_cells};
 
-use crate::clause_literal::{clause_literal, maximum_of};
 use crate::gates::hold_step;
-use crate::hold::hold_clause;
-use crate::model_literals::{next_of, outside};
+use crate::model_literals::next_of;
+use crate::picked::outside;
+use crate::variables::Variables;
 use circuit::Model;
 use game::Row;
 use sat::{Solver, SolverFault};
 
 // Holds that the step is one of the model's, and that it is not bad.
 pub fn hold_answer_base<S: Solver>(model: &Model<'_>, solver: &mut S) -> Result<(), SolverFault>
-    ensures held { Held (S.Solver.variable_count solver.old) (S.Solver.cell_count solver.old) (S.Solver.clauses solver.old) (answer_base model.now.«record».now model.now.gates.now) (S.Solver.variable_count solver.new) (S.Solver.cell_count solver.new) (S.Solver.clauses solver.new) (result_err result) }
-    ensures whole { Whole (answer_variables model.now.«record».now) (answer_base_cells model.now.«record».now) (S.Solver.variable_count solver.old) (S.Solver.cell_count solver.old) (S.Solver.clauses solver.old) (answer_base model.now.«record».now model.now.gates.now) (S.Solver.clauses solver.new) (is_ok result) }
-{
-    put_base(model, solver)
-}
-
-fn put_base<S: Solver>(model: &Model<'_>, solver: &mut S) -> Result<(), SolverFault>
-    ensures { Held (S.Solver.variable_count solver.old) (S.Solver.cell_count solver.old) (S.Solver.clauses solver.old) (answer_base model.now.«record».now model.now.gates.now) (S.Solver.variable_count solver.new) (S.Solver.cell_count solver.new) (S.Solver.clauses solver.new) (result_err result) }
+    ensures held { Held (S.Solver.meaning solver.old) (answer_base model.now.«record».now model.now.gates.now) (S.Solver.meaning solver.new) (result_err result) }
+    ensures whole { Whole (answer_variables model.now.«record».now) (answer_base_cells model.now.«record».now) (S.Solver.meaning solver.old) (answer_base model.now.«record».now model.now.gates.now) (S.Solver.meaning solver.new) (is_ok result) }
 {
     hold_step(solver, model)?;
-    let output = clause_literal(maximum_of(model), model.output());
-    hold_clause(solver, &[output.negation()])
+    let output = Variables::of(model).clause_literal(model.output());
+    solver.hold(&[output.negation()])
 }
 
 // Holds that the row does not cover the next state.
@@ -36,16 +30,9 @@ pub fn hold_answer_row<S: Solver>(
     solver: &mut S,
     row: Row,
 ) -> Result<(), SolverFault>
-    ensures held { Held (S.Solver.variable_count solver.old) (S.Solver.cell_count solver.old) (S.Solver.clauses solver.old) (answer_row model.now.«record».now row ∷ []) (S.Solver.variable_count solver.new) (S.Solver.cell_count solver.new) (S.Solver.clauses solver.new) (result_err result) }
-    ensures whole { Whole (answer_variables model.now.«record».now) (answer_row_cells model.now.«record».now) (S.Solver.variable_count solver.old) (S.Solver.cell_count solver.old) (S.Solver.clauses solver.old) (answer_row model.now.«record».now row ∷ []) (S.Solver.clauses solver.new) (is_ok result) }
+    ensures held { Held (S.Solver.meaning solver.old) (answer_row model.now.«record».now row ∷ []) (S.Solver.meaning solver.new) (result_err result) }
+    ensures whole { Whole (answer_variables model.now.«record».now) (answer_row_cells model.now.«record».now) (S.Solver.meaning solver.old) (answer_row model.now.«record».now row ∷ []) (S.Solver.meaning solver.new) (is_ok result) }
 {
-    put_row(model, solver, row)
-}
-
-fn put_row<S: Solver>(model: &Model<'_>, solver: &mut S, row: Row) -> Result<(), SolverFault>
-    ensures { Held (S.Solver.variable_count solver.old) (S.Solver.cell_count solver.old) (S.Solver.clauses solver.old) (answer_row model.now.«record».now row ∷ []) (S.Solver.variable_count solver.new) (S.Solver.cell_count solver.new) (S.Solver.clauses solver.new) (result_err result) }
-{
-    let next = next_of(model);
-    let clause = outside(next.as_slice(), row.care, row.value);
-    hold_clause(solver, clause.as_slice())
+    let clause = outside(&next_of(model), row.care, row.value);
+    solver.hold(clause.as_slice())
 }

@@ -1,24 +1,13 @@
 // A mask read off marks.
 
-ghost use Rattle.std.specs.Prelude.{◌≡◌, ◌≤◌, length, take};
+ghost use Rattle.std.specs.Prelude.{◌≡◌, take};
 ghost use Rattle.encoding.specs.Literals.{care_of};
+
+use bits::number;
 
 // The mask of the places whose mark is 1, of the first 32 places.
 pub fn care_of(marks: &[u8]) -> u32
     ensures { result ≡ care_of (take 32 marks.now) }
 {
-    mask_of(&marks[0..marks.len().min(32)])
-}
-
-fn mask_of(marks: &[u8]) -> u32
-    requires { length marks.now ≤ 32 }
-    ensures { result ≡ care_of marks.now }
-{
-    let mut care = 0;
-    for (j, mark) in marks.iter().enumerate() {
-        if *mark == 1 {
-            care += 1u32 << j;
-        }
-    }
-    care
+    number(&marks[..marks.len().min(32)], |mark| *mark == 1)
 }

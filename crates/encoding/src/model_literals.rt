@@ -1,43 +1,35 @@
 // The literals of a model's latches, of what they take over and of its inputs.
 
 ghost use Rattle.std.specs.Prelude.{◌≡◌, ◌≤◌, length};
-ghost use Rattle.encoding.specs.Clauses.{not_all};
-ghost use Rattle.encoding.specs.Literals.{cared, latch_literals, next_literals, side_literals};
-ghost use Rattle.encoding.specs.Tables.{literals_in};
+ghost use Rattle.encoding.specs.Literals.{latch_literals, next_literals, side_literals};
 
-use crate::clause_literal::maximum_of;
-use crate::picked::{latch_literals, negations, next_literals, side_literals};
-use crate::table::Literals;
+use crate::variables::Variables;
 use circuit::{Model, Side};
-use literal::Literal;
+use sat::Literals;
 
 pub fn latches_of(model: &Model<'_>) -> Literals
-    ensures value { literals_in result ≡ latch_literals model.now.«record».now }
-    ensures bound { length (literals_in result) ≤ 32 }
+    ensures value { result ≡ latch_literals model.now.«record».now }
+    ensures bound { length result ≤ 32 }
 {
-    latch_literals(model.used_latches())
+    Literals::of(model.used_latches().iter().map(|latch| latch.literal))
 }
 
+// What the latches take over, as literals of clauses.
 pub fn next_of(model: &Model<'_>) -> Literals
-    ensures value { literals_in result ≡ next_literals model.now.«record».now }
-    ensures bound { length (literals_in result) ≤ 32 }
+    ensures value { result ≡ next_literals model.now.«record».now }
+    ensures bound { length result ≤ 32 }
 {
-    next_literals(model.used_latches(), maximum_of(model))
+    let variables = Variables::of(model);
+    let latches = model.used_latches().iter();
+    Literals::of(latches.map(|latch| variables.clause_literal(latch.next)))
 }
 
+// The inputs of a side.
 pub fn inputs_of(model: &Model<'_>, side: Side) -> Literals
-    ensures value { literals_in result ≡ side_literals side model.now.«record».now }
-    ensures bound { length (literals_in result) ≤ 12 }
+    ensures value { result ≡ side_literals side model.now.«record».now }
+    ensures bound { length result ≤ 12 }
 {
-    side_literals(model.used_inputs(), side)
-}
-
-// The clause that not all of what the mask picks are true.
-pub fn outside(literals: &[Literal], care: u32, value: u32) -> Literals
-    requires { length literals.now ≤ 32 }
-    ensures { literals_in result ≡ not_all (cared literals.now care value) }
-{
-    let mut inside = Literals::none();
-    inside.push_cared(literals, care, value);
-    negations(inside.as_slice())
+    let inputs = model.used_inputs().iter();
+    let these = inputs.filter(|input| side == input.side);
+    Literals::of(these.map(|input| input.literal))
 }

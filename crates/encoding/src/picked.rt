@@ -1,68 +1,12 @@
-// Lists of a model's literals, and what masks and signs pick of them, put into tables.
+// What masks and signs pick of literals, put into tables.
 
-ghost use Rattle.std.specs.Prelude.{◌≡◌, ◌≤◌, ◌++◌, map, take};
+ghost use Rattle.std.specs.Prelude.{◌≡◌, ◌≤◌, ◌++◌, length, map, take};
 ghost use Rattle.literal.specs.Truth.{negation_of};
-ghost use Rattle.circuit.specs.Settled.{same_side, of_side};
-ghost use Rattle.encoding.specs.Literals.{clause_literal, signed, with_signs, cared};
-ghost use Rattle.encoding.specs.Tables.{literals_in};
+ghost use Rattle.encoding.specs.Clauses.{not_all};
+ghost use Rattle.encoding.specs.Literals.{signed, with_signs, cared};
 
-use crate::clause_literal::clause_literal;
-use crate::table::Literals;
-use circuit::{Input, Latch, Side};
 use literal::Literal;
-
-pub fn latch_literals(latches: &[Latch]) -> Literals
-    ensures { literals_in result ≡ take 64 (map (λ l. l.literal) latches.now) }
-{
-    let mut table = Literals::none();
-    for latch in latches {
-        table.push(latch.literal);
-    }
-    table
-}
-
-// What the latches take over, as literals of clauses.
-pub fn next_literals(latches: &[Latch], maximum: u16) -> Literals
-    requires { maximum ≤ 4096 }
-    ensures { literals_in result ≡ take 64 (map (λ l. clause_literal maximum l.next) latches.now) }
-{
-    let mut table = Literals::none();
-    for latch in latches {
-        table.push(clause_literal(maximum, latch.next));
-    }
-    table
-}
-
-// The inputs of a side.
-pub fn side_literals(inputs: &[Input], side: Side) -> Literals
-    ensures { literals_in result ≡ take 64 (map (λ i. i.literal) (of_side side inputs.now)) }
-{
-    let mut table = Literals::none();
-    for input in inputs {
-        if same_side(side, input.side) {
-            table.push(input.literal);
-        }
-    }
-    table
-}
-
-fn same_side(one: Side, other: Side) -> bool
-    ensures { result ≡ same_side one other }
-{
-    match one {
-        Side::Event => matches_event(other),
-        Side::Answer => !matches_event(other),
-    }
-}
-
-fn matches_event(side: Side) -> bool
-    ensures { result ≡ same_side Side.Event side }
-{
-    match side {
-        Side::Event => true,
-        Side::Answer => false,
-    }
-}
+use sat::{Literals, MAX_LITERALS};
 
 // The literal as it is for a 1, and negated for a 0.
 fn signed_as(literal: Literal, bit: bool) -> Literal
@@ -71,41 +15,48 @@ fn signed_as(literal: Literal, bit: bool) -> Literal
     if bit { literal } else { literal.negation() }
 }
 
-impl Literals {
-    // Puts the literals with the signs of the number's bits.
-    pub(crate) fn push_signed(&mut self, literals: &[Literal], number: u32)
-        ensures { literals_in self.new ≡ take 64 (literals_in self.old ++ with_signs literals.now number) }
-    {
-        let mut bits = number;
-        for literal in literals {
-            self.push(signed_as(*literal, bits % 2 == 1));
-            bits /= 2;
-        }
+// Puts the literals with the signs of the number's bits.
+pub fn push_signed(table: &mut Literals, literals: &Literals, number: u32)
+    ensures { table.new ≡ take 64 (table.old ++ with_signs literals.now number) }
+{
+    let mut bits = number;
+    for literal in literals.as_slice() {
+        table.push(signed_as(*literal, bits % 2 == 1));
+        bits /= 2;
     }
+    prove!(table.as_slice().len() <= MAX_LITERALS);
+}
 
-    // Puts those at the bits of the mask, with the signs of the value's bits.
-    pub(crate) fn push_cared(&mut self, literals: &[Literal], care: u32, value: u32)
-        ensures { literals_in self.new ≡ take 64 (literals_in self.old ++ cared literals.now care value) }
-    {
-        let mut care = care;
-        let mut value = value;
-        for literal in literals {
-            if care % 2 == 1 {
-                self.push(signed_as(*literal, value % 2 == 1));
-            }
-            care /= 2;
-            value /= 2;
+// Puts those at the bits of the mask, with the signs of the value's bits.
+pub fn push_cared(table: &mut Literals, literals: &Literals, care: u32, value: u32)
+    ensures { table.new ≡ take 64 (table.old ++ cared literals.now care value) }
+{
+    let mut care = care;
+    let mut value = value;
+    for literal in literals.as_slice() {
+        if care % 2 == 1 {
+            table.push(signed_as(*literal, value % 2 == 1));
         }
+        care /= 2;
+        value /= 2;
     }
+    prove!(table.as_slice().len() <= MAX_LITERALS);
 }
 
 // The negation of each.
-pub fn negations(literals: &[Literal]) -> Literals
-    ensures { literals_in result ≡ take 64 (map negation_of literals.now) }
+pub fn negations(literals: &Literals) -> Literals
+    ensures { result ≡ map negation_of literals.now }
 {
-    let mut table = Literals::none();
-    for literal in literals {
-        table.push(literal.negation());
-    }
-    table
+    let literals = literals.as_slice();
+    Literals::of(literals.iter().map(|literal| literal.negation()))
+}
+
+// The clause that not all of what the mask picks are true.
+pub fn outside(literals: &Literals, care: u32, value: u32) -> Literals
+    requires { length literals.now ≤ 32 }
+    ensures { result ≡ not_all (cared literals.now care value) }
+{
+    let mut inside = Literals::none();
+    push_cared(&mut inside, literals, care, value);
+    negations(&inside)
 }

@@ -4,6 +4,7 @@ use lib.Bits.{bit_and}
 use Rattle.std.proofs.lemmas.Nat.{and_shr, and_mod, shr-shr, div-add-mod', mul-le}
 use Rattle.std.proofs.lemmas.Bool.{cases_Bool, eqb-true, eq-eqb, ne_eqb, cases_eq}
 use Rattle.std.proofs.lemmas.Bool.Decides.{nat_tests, Decides-at, Decides-and}
+use Rattle.std.proofs.Math.Bool.{and-true, and-false}
 use Rattle.circuit.specs.Step.{bit}
 use Rattle.game.specs.Bits.{AgreesByBits, LessByBits, RowBits, ExceptionBits}
 use Rattle.game.specs.Rows.{agrees, row_covers, exception_covers, less_bit}
@@ -46,25 +47,17 @@ same_upto (suc n) a b la lb h =
 pub same_bits : (a b : ℕ) → ((j : ℕ) → bit a j ≡ bit b j) → a ≡ b
 same_bits a b h = same_upto (a + b) a b (omega arith) (omega arith) h
 
-and_true_r : (x : Bool) → (x && true) ≡ x
-and_true_r true = refl
-and_true_r false = refl
-
-and_false_r : (x : Bool) → (x && false) ≡ false
-and_false_r true = refl
-and_false_r false = refl
-
 -- a value has no bit outside its care
 outside : (care value j : ℕ) → bit_and value care ≡ value → bit care j ≡ false → bit value j ≡ false
 outside care value j inside c =
-    sym (ap (λ t. bit t j) inside) ∙ (bit_and_lem value care j ∙ (ap (λ t. bit value j && t) c ∙ and_false_r (bit value j)))
+    sym (ap (λ t. bit t j) inside) ∙ (bit_and_lem value care j ∙ (ap (λ t. bit value j && t) c ∙ and-false (bit value j)))
 
 pub agrees_by_bits : AgreesByBits
 agrees_by_bits care value n inside = (there, back)
   where
     there : agrees care value n ≡ true → (j : ℕ) → bit care j ≡ true → bit n j ≡ bit value j
     there e j c =
-        sym (and_true_r (bit n j))
+        sym (and-true (bit n j))
         ∙ (ap (λ t. bit n j && t) (sym c) ∙ (sym (bit_and_lem n care j) ∙ ap (λ t. bit t j) (eqb-true (bit_and n care) value e)))
 
     back : ((j : ℕ) → bit care j ≡ true → bit n j ≡ bit value j) → agrees care value n ≡ true
@@ -72,8 +65,8 @@ agrees_by_bits care value n inside = (there, back)
         eq-eqb (bit_and n care) value (same_bits (bit_and n care) value (λ j.
         bit_and_lem n care j
         ∙ elim (cases_Bool (bit care j)) [
-          | inl c ↦ ap (λ t. bit n j && t) c ∙ (and_true_r (bit n j) ∙ h j c)
-          | inr c ↦ ap (λ t. bit n j && t) c ∙ (and_false_r (bit n j) ∙ sym (outside care value j inside c))
+          | inl c ↦ ap (λ t. bit n j && t) c ∙ (and-true (bit n j) ∙ h j c)
+          | inr c ↦ ap (λ t. bit n j && t) c ∙ (and-false (bit n j) ∙ sym (outside care value j inside c))
         ]))
 
 -- a number without a bit past the lowest: its half without the bit before, and the lowest bit
@@ -91,16 +84,16 @@ less_half n j =
         omega (arith, mul-le (q % 2) (2 ^ j) q (2 ^ j) (omega arith) (omega arith), div-add-mod' (n / 2) (2 ^ j))
 
 pub less_bits : (j n k : ℕ) → bit (less_bit n j) k ≡ (bit n k && not (eqb k j))
-less_bits zero n zero = ne_eqb (less_bit n 0 / 2 ^ 0 % 2) 1 (λ e. omega arith) ∙ sym (and_false_r (bit n 0))
+less_bits zero n zero = ne_eqb (less_bit n 0 / 2 ^ 0 % 2) 1 (λ e. omega arith) ∙ sym (and-false (bit n 0))
 less_bits zero n (suc k) =
     sym (bit_half (less_bit n 0) k)
     ∙ (ap (λ t. bit t k) (omega arith)
-    ∙ (bit_half n k ∙ sym (ap (λ t. bit n (suc k) && not t) (ne_eqb (suc k) 0 (λ e. omega arith)) ∙ and_true_r (bit n (suc k)))))
+    ∙ (bit_half n k ∙ sym (ap (λ t. bit n (suc k) && not t) (ne_eqb (suc k) 0 (λ e. omega arith)) ∙ and-true (bit n (suc k)))))
 less_bits (suc j) n zero =
     ap (λ t. bit t 0) (less_half n j)
     ∙ (bit_low (less_bit (n / 2) j * 2 + n % 2)
     ∙ (ap (λ t. eqb t 1) (omega arith)
-    ∙ (sym (bit_low n) ∙ sym (ap (λ t. bit n 0 && not t) (ne_eqb 0 (suc j) (λ e. omega arith)) ∙ and_true_r (bit n 0)))))
+    ∙ (sym (bit_low n) ∙ sym (ap (λ t. bit n 0 && not t) (ne_eqb 0 (suc j) (λ e. omega arith)) ∙ and-true (bit n 0)))))
 less_bits (suc j) n (suc k) =
     ap (λ t. bit t (suc k)) (less_half n j)
     ∙ (sym (bit_half (less_bit (n / 2) j * 2 + n % 2) k)

@@ -17,6 +17,7 @@ pub fn is_covered(rows: &[Row], state: u32) -> bool
 }
 
 // Whether some exception covers the pair.
+#[tactic(auto, using(roll::proofs::First::any_first))]
 pub fn is_excepted(exceptions: &[Exception], pair: Pair) -> bool
     ensures { result ≡ excepted exceptions.now pair.state pair.event }
 {
@@ -28,8 +29,6 @@ pub fn forcing_event(rows: &[Row], state: u32) -> Option<u32>
     ensures value { result ≡ forcing rows.now state }
     ensures forces { Forces rows.now state result }
 {
-    match first_covering(rows, &state) {
-        Some(place) => Some(rows[place].event),
-        None => None,
-    }
+    let place = first_covering(rows, &state)?;
+    Some(rows[place].event)
 }

@@ -31,7 +31,7 @@ impl Exception {
         event_value: 0,
     };
 
-    // An exception of zeros.
+    // An exception of zeros. A constant has no contract, so this call says what it is.
     pub fn blank() -> Exception
         ensures { result ≡ blank_exception }
     {

@@ -22,7 +22,7 @@ impl Row {
         event: 0,
     };
 
-    // A row of zeros.
+    // A row of zeros. A constant has no contract, so this call says what it is.
     pub fn blank() -> Row
         ensures { result ≡ blank_row }
     {
@@ -35,6 +35,7 @@ impl Covering for Row {
 
     ghost covering = { λ r s. row_covers r s };
 
+    #[tactic(auto, using(crate::proofs::Bits::row_bits))]
     fn covers(&self, point: &u32) -> bool
         ensures value { result ≡ row_covers self.now point.now }
         ensures bits { RowBits self.now point.now result }

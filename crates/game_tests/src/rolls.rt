@@ -2,6 +2,8 @@
 
 use game::{Exception, Row};
 use roll::{Roll, RollFault};
+use std::fmt::Debug;
+use std::process::Abort;
 use std::test::Fail;
 
 #[test]
@@ -42,6 +44,17 @@ fn clear_blanks_every_place(rt: HostRuntime) {
     assert!(rt; places == [0, 0, 0]);
 }
 
+// Fills the one place of a roll, finds it full, and clears it.
+fn fills_up<T: Copy + PartialEq + Debug>(rt: &impl Abort, places: &mut [T], first: T, blank: T) {
+    let mut roll = Roll::new(places);
+    assert_eq!(rt; roll.append(first), Ok(()));
+    assert_eq!(rt; roll.append(blank), Err(RollFault::Full));
+    assert_eq!(rt; roll.at(0), Ok(first));
+    assert_eq!(rt; roll.at(1), Err(RollFault::NotUsed));
+    roll.clear(blank);
+    assert_eq!(rt; roll.count(), 0);
+}
+
 #[test]
 fn rows_fill_up(rt: HostRuntime) {
     let first = Row {
@@ -49,14 +62,7 @@ fn rows_fill_up(rt: HostRuntime) {
         value: 2,
         event: 1,
     };
-    let mut places = [Row::BLANK; 1];
-    let mut roll = Roll::new(&mut places);
-    assert_eq!(rt; roll.append(first), Ok(()));
-    assert_eq!(rt; roll.append(Row::BLANK), Err(RollFault::Full));
-    assert_eq!(rt; roll.at(0), Ok(first));
-    assert_eq!(rt; roll.at(1), Err(RollFault::NotUsed));
-    roll.clear(Row::BLANK);
-    assert_eq!(rt; roll.count(), 0);
+    fills_up(&rt, &mut [Row::BLANK], first, Row::BLANK);
 }
 
 #[test]
@@ -67,12 +73,7 @@ fn exceptions_fill_up(rt: HostRuntime) {
         event_care: 2,
         event_value: 2,
     };
-    let mut places = [Exception::BLANK; 1];
-    let mut roll = Roll::new(&mut places);
-    assert_eq!(rt; roll.append(first), Ok(()));
-    assert_eq!(rt; roll.append(Exception::BLANK), Err(RollFault::Full));
-    assert_eq!(rt; roll.at(0), Ok(first));
-    assert_eq!(rt; roll.at(1), Err(RollFault::NotUsed));
+    fills_up(&rt, &mut [Exception::BLANK], first, Exception::BLANK);
 }
 
 #[test]

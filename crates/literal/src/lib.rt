@@ -5,7 +5,7 @@ ghost use Rattle.std.specs.Prelude.{◌≡◌, false, not, cond};
 ghost use Rattle.literal.specs.Truth.{Values, variable_of, negated, negation_of, truth, values_of};
 
 // Code 2v is variable v, and 2v + 1 its negation. Variable 0 is false, so code 0 is false and code 1 is true.
-#[derive(Clone, Copy, PartialEq, Eq, Debug)]
+#[derive(Clone, Copy, Default, PartialEq, Eq, Debug)]
 pub struct Literal {
     pub code: u16,
 }

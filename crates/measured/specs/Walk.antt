@@ -21,6 +21,14 @@ abbrev pub walked : Record → List Gate → ℕ → ℕ → ℕ → ℕ
 walked r gs zero i s = s
 walked r gs (suc n) i s = walked r gs n (i + 1) (walk_step r gs i s)
 
+-- the last state, where the file was read
+abbrev pub last : Result (Unit {0}) ReadFault → Record → List Gate → ℕ → Result ℕ ReadFault
+last (Ok u) r gs n = Ok (walked r gs n 0 0)
+last (Err f) r gs n = Err f
+
+abbrev pub last_in : Answered → ℕ → Result ℕ ReadFault
+last_in a n = last a.result a.model a.gates n
+
 abbrev pub reached : Result (Unit {0}) ReadFault → Record → List Gate → ℕ → ℕ
 reached (Ok u) r gs n = walked r gs n 0 0
 reached (Err f) r gs n = 2 ^ 32 + (refusal_of f).number

@@ -1,14 +1,17 @@
 -- Trying without an assumption: the call below passes its checks, and either answer says what becomes of the marks.
-use Rattle.std.proofs.Common.{◌≡◌, ℕ, ◌+◌, ◌-◌, ◌<◌, ◌≤◌, min, true, ◌≢◌, List, ◌++◌, length, get_or, drop, set, replicate, Some, None, Option, sym, ap, ◌∙◌, subst, inl, inr, arith}
+use Rattle.std.proofs.Common.{◌≡◌, ℕ, ◌+◌, ◌-◌, ◌<◌, ◌≤◌, min, true, ◌≢◌, List, ◌++◌, length, get_or, drop, set, replicate, Some, None, Option, Ok, sym, ap, ◌∙◌, subst, inl, inr, arith}
 use Rattle.std.proofs.lemmas.List.{get_or-set_other, drop-set-lt, drop-drop}
 use Rattle.std.proofs.lemmas.Bool.{cases_eq, cases_lt}
 use Rattle.literal.specs.declared.Literal.{Literal}
 use Rattle.literal.specs.Truth.{Values}
 use Rattle.sat.specs.declared.fault.SolverFault.{SolverFault}
-use Rattle.sat.specs.Answers.{Solved, Refuted}
+use Rattle.sat.specs.declared.answer.Answer.{Answer}
+use Rattle.sat.specs.declared.answer.Answer.TheVariants.{No}
+use Rattle.sat.specs.Answers.{Solved, Refuted, Decided}
 use Rattle.sat.specs.Clauses.{Clause, Unsatisfiable, all_true, marked, byte_values}
-use Rattle.sat.specs.Faults.{in_range, decide_fault}
-use Rattle.sat.proofs.Checks.{decide_passes}
+use Rattle.sat.specs.Faults.{in_range, decide_fault, narrow_fault}
+use Rattle.sat.proofs.Checks.{decide_passes, narrow_none, DecidePasses}
+use Rattle.sat.proofs.Decisions.{decided_no}
 use Rattle.sat.proofs.Laws.{range_marked, marked_length, none_more_marks}
 use Rattle.sat.proofs.Narrowing.{NarrowedBelow, narrowed_kept, narrowed_dropped, unmarked, unmarked_fewer, set_back, front_at, front_past, front_rest, front_length}
 use Rattle.narrowing.specs.Drops.{Tried}
@@ -70,34 +73,42 @@ tried_more cs assumed first i before ms ns s h (inr d) =
     (λ k l q. d.fewer k q)
     d.gone
 
--- the marks of a no below, with the first ones marked besides
+-- a no below to a question that the check let through
+pub record AskedNo (V : ℕ) (cs : List Clause) (assumed : List Literal) (first : ℕ) (vs ms vs' ms' : List ℕ) : Type 0 where
+  pub refused : None ≡ narrow_fault V assumed first (length vs) (length ms)
+  pub passes : DecidePasses V assumed (length vs) (length ms)
+  pub few : first ≤ length assumed
+  pub refuted : Refuted cs assumed ms ms'
+  pub same : vs' ≡ vs
 
-module _ (cs : List Clause) (assumed : List Literal) (first : ℕ) (before ms ns : List ℕ) (refuted : Refuted cs assumed before ms)
-    (few : first ≤ length assumed) (room : length assumed ≤ length ms) (is : ns ≡ replicate (min first (length ms)) 1 ++ drop first ms) where
-  pub first_marked : (k : ℕ) → k < first → get_or ns k 0 ≡ 1
-  first_marked = front_at first 1 ms ns (omega arith) is
+pub asked_no : (V W : ℕ) (cs : List Clause) (assumed : List Literal) (first : ℕ) (vs ms vs' ms' : List ℕ) (a : Answer) → W ≡ V
+    → None ≡ narrow_fault W assumed first (length vs) (length ms) → Decided V cs assumed vs ms vs' ms' (Ok a) → a ≡ No → AskedNo V cs assumed first vs ms vs' ms'
+asked_no V W cs assumed first vs ms vs' ms' a v r d n =
+    let e = r ∙ ap (λ x. narrow_fault x assumed first (length vs) (length ms)) v in
+    let p = narrow_none V assumed first (length vs) (length ms) (sym e) in
+    let q = decided_no V cs assumed vs ms vs' ms' a d n in
+    record { refused = e; passes = p.0; few = p.1; refuted = q.0; same = q.1 }
 
-  later_same : (k : ℕ) → first ≤ k → get_or ns k 0 ≡ get_or ms k 0
-  later_same = front_past first 1 ms ns (omega arith) is
+-- its marks, with the first ones marked besides
+pub record Begun (cs : List Clause) (assumed : List Literal) (first : ℕ) (before ms ns : List ℕ) : Type 0 where
+  pub firsts : (k : ℕ) → k < first → get_or ns k 0 ≡ 1
+  pub bits : (k : ℕ) → k < length assumed → get_or ns k 0 ≤ 1
+  pub none : Unsatisfiable cs (marked assumed ns)
+  pub long : length ns ≡ length ms
+  pub rest : drop (length assumed) ns ≡ drop (length assumed) before
 
-  pub first_bits : (k : ℕ) → k < length assumed → get_or ns k 0 ≤ 1
-  first_bits k h = elim (cases_lt k first) [
-    | inl l ↦ omega (arith, first_marked k l)
-    | inr l ↦ omega (arith, later_same k l, refuted.bits k h)
-  ]
-
-  pub first_none : Unsatisfiable cs (marked assumed ns)
-  first_none =
-      none_more_marks cs assumed ms ns
-      (λ k h e. elim (cases_lt k first) [ inl l ↦ first_marked k l | inr l ↦ later_same k l ∙ e ])
-      refuted.none
-
-  pub first_length : length ns ≡ length ms
-  first_length = front_length first 1 ms ns (omega arith) is
-
-  pub first_rest : drop (length assumed) ns ≡ drop (length assumed) before
-  first_rest =
-      let n : first + (length assumed - first) ≡ length assumed = omega arith in
-      let m = length assumed - first in
-      ap (λ k. drop k ns) (sym n) ∙ sym (drop-drop m first ns) ∙ ap (λ x. drop m x) (front_rest first 1 ms ns (omega arith) is)
-      ∙ drop-drop m first ms ∙ ap (λ k. drop k ms) n ∙ refuted.rest
+pub begun : (cs : List Clause) (assumed : List Literal) (first : ℕ) (before ms ns : List ℕ) → Refuted cs assumed before ms → first ≤ length assumed
+    → length assumed ≤ length ms → ns ≡ replicate (min first (length ms)) 1 ++ drop first ms → Begun cs assumed first before ms ns
+begun cs assumed first before ms ns refuted few room is =
+    let ones : (k : ℕ) → k < first → get_or ns k 0 ≡ 1 = front_at first 1 ms ns (omega arith) is in
+    let later : (k : ℕ) → first ≤ k → get_or ns k 0 ≡ get_or ms k 0 = front_past first 1 ms ns (omega arith) is in
+    let n : first + (length assumed - first) ≡ length assumed = omega arith in
+    let m = length assumed - first in
+    record {
+      firsts = ones;
+      bits = λ k h. elim (cases_lt k first) [ inl l ↦ omega (arith, ones k l) | inr l ↦ omega (arith, later k l, refuted.bits k h) ];
+      none = none_more_marks cs assumed ms ns (λ k h e. elim (cases_lt k first) [ inl l ↦ ones k l | inr l ↦ later k l ∙ e ]) refuted.none;
+      long = front_length first 1 ms ns (omega arith) is;
+      rest = ap (λ k. drop k ns) (sym n) ∙ sym (drop-drop m first ns) ∙ ap (λ x. drop m x) (front_rest first 1 ms ns (omega arith) is)
+          ∙ drop-drop m first ms ∙ ap (λ k. drop k ms) n ∙ refuted.rest;
+    }

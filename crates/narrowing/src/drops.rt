@@ -1,4 +1,5 @@
-// Dropping assumptions, one after another, by asking the solver below without them.
+// Dropping assumptions, one after another, by asking the solver below without them. What both functions take stays in
+// parameters: methods of a struct that holds the lent buffers would have to promise that it still holds the same ones.
 
 ghost use Rattle.std.specs.Prelude.{◌≡◌, ℕ, ◌+◌, ◌<◌, ◌≤◌, true, length, drop, None, slice_index};
 ghost use Rattle.std.specs.Result.{result_err};
@@ -9,7 +10,7 @@ ghost use Rattle.narrowing.specs.Drops.{Tried};
 
 use crate::sift::sift;
 use literal::Literal;
-use sat::{Answer, MAX_LITERALS, Picked, Solver, SolverFault};
+use sat::{Answer, Literals, MAX_LITERALS, Solver, SolverFault};
 
 // Asks without assumption `i`. Where it is not needed it is dropped, with all that the solver below did not mark then.
 fn try_without<S: Solver>(
@@ -20,22 +21,20 @@ fn try_without<S: Solver>(
     values: &mut [u8],
     marks: &mut [u8],
 ) -> Result<(), SolverFault>
-    requires ranged { in_range (S.Solver.variable_count below.old) assumed.now ≡ true }
+    requires ranged { in_range (S.Solver.meaning below.old).variables assumed.now ≡ true }
     requires short { length assumed.now ≤ 64 }
     requires within { i < length assumed.now }
     requires past { first ≤ i }
     requires is_marked { slice_index marks.old i ≡ 1 }
-    requires values_room { S.Solver.variable_count below.old < length values.old }
+    requires values_room { (S.Solver.meaning below.old).variables < length values.old }
     requires marks_room { length assumed.now ≤ length marks.old }
     ensures ok { result_err result ≡ None }
-    ensures cases { Tried (S.Solver.clauses below.old) assumed.now first i marks.old marks.new }
-    ensures rest { drop (S.Solver.variable_count below.old + 1) values.new ≡ drop (S.Solver.variable_count below.old + 1) values.old }
-    ensures same { S.Solver.clauses below.new ≡ S.Solver.clauses below.old }
-    ensures same_variables { S.Solver.variable_count below.new ≡ S.Solver.variable_count below.old }
-    ensures same_cells { S.Solver.cell_count below.new ≡ S.Solver.cell_count below.old }
+    ensures cases { Tried (S.Solver.meaning below.old).clauses assumed.now first i marks.old marks.new }
+    ensures rest { drop ((S.Solver.meaning below.old).variables + 1) values.new ≡ drop ((S.Solver.meaning below.old).variables + 1) values.old }
+    ensures same { S.Solver.meaning below.new ≡ S.Solver.meaning below.old }
 {
     marks[i] = 0;
-    let picked = Picked::marked(assumed, marks);
+    let picked = Literals::marked(assumed, marks);
     let mut again = [0u8; MAX_LITERALS];
     match below.decide(picked.as_slice(), values, &mut again)? {
         Answer::Yes => marks[i] = 1,
@@ -52,20 +51,19 @@ pub fn drop_each<S: Solver>(
     values: &mut [u8],
     marks: &mut [u8],
 ) -> Result<(), SolverFault>
-    requires ranged { in_range (S.Solver.variable_count below.old) assumed.now ≡ true }
+    requires ranged { in_range (S.Solver.meaning below.old).variables assumed.now ≡ true }
     requires short { length assumed.now ≤ 64 }
     requires firsts { (k : ℕ) → k < first → slice_index marks.old k ≡ 1 }
     requires bits { (k : ℕ) → k < length assumed.now → slice_index marks.old k ≤ 1 }
-    requires none { Unsatisfiable (S.Solver.clauses below.old) (marked assumed.now marks.old) }
-    requires values_room { S.Solver.variable_count below.old < length values.old }
+    requires none { Unsatisfiable (S.Solver.meaning below.old).clauses (marked assumed.now marks.old) }
+    requires values_room { (S.Solver.meaning below.old).variables < length values.old }
     requires marks_room { length assumed.now ≤ length marks.old }
     ensures ok { result_err result ≡ None }
-    ensures narrowed { Narrowed (S.Solver.clauses below.old) assumed.now first marks.old marks.new }
-    ensures rest { drop (S.Solver.variable_count below.old + 1) values.new ≡ drop (S.Solver.variable_count below.old + 1) values.old }
-    ensures same { S.Solver.clauses below.new ≡ S.Solver.clauses below.old }
-    ensures same_variables { S.Solver.variable_count below.new ≡ S.Solver.variable_count below.old }
-    ensures same_cells { S.Solver.cell_count below.new ≡ S.Solver.cell_count below.old }
+    ensures narrowed { Narrowed (S.Solver.meaning below.old).clauses assumed.now first marks.old marks.new }
+    ensures rest { drop ((S.Solver.meaning below.old).variables + 1) values.new ≡ drop ((S.Solver.meaning below.old).variables + 1) values.old }
+    ensures same { S.Solver.meaning below.new ≡ S.Solver.meaning below.old }
 {
+    // By index: a turn may take later marks away too.
     for i in first..assumed.len() {
         if marks[i] == 1 {
             try_without(below, assumed, first, i, values, marks)?;

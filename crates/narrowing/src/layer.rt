@@ -20,11 +20,7 @@ impl<S: Solver> Narrowing<S> {
 }
 
 impl<S: Solver> Solver for Narrowing<S> {
-    ghost clauses = { λ n. S.Solver.clauses n.below };
-
-    ghost variable_count = { λ n. S.Solver.variable_count n.below };
-
-    ghost cell_count = { λ n. S.Solver.cell_count n.below };
+    ghost meaning = { λ n. S.Solver.meaning n.below };
 
     fn variables(&self) -> usize {
         self.below.variables()

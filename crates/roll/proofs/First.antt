@@ -1,6 +1,5 @@
 -- What the first element that passes a test says of the list: it is the only one, and there is one where some element passes.
 use Rattle.std.proofs.Common.{◌≡◌, ℕ, zero, suc, ◌<◌, Bool, true, false, ◌||◌, List, [], ◌∷◌, ◌++◌, length, get_or, take, is_some, Some, None, Option, sym, refl, ap, ◌∙◌, inl, inr, arith}
-use Rattle.std.proofs.lemmas.List.Elements.{at_read}
 use Rattle.std.proofs.lemmas.List.{get_or-take, length-take}
 use Rattle.std.proofs.lemmas.Bool.{both_ways, cases_Bool, cases_order, or_cases, or_from, or_left, or_right}
 use Rattle.roll.specs.First.{any_passes, FirstAt, NonePasses, First, OnlyFirst}
@@ -25,12 +24,6 @@ module _ {X : Type 0} (test : X → Bool) where
   pub only_first : (xs : List X) (r : Option ℕ) → First test xs r → OnlyFirst test xs r
   only_first xs None h = record { some = λ i f. absurd (not_both xs i f h); none = λ _. refl }
   only_first xs (Some j) h = record { some = λ i f. ap Some (same_place xs j i h f); none = λ n. absurd (not_both xs j h n) }
-
-  -- a search that read the element x at place i, and passed the places before it
-  pub first_found : (xs : List X) (i : ℕ) (x : X) → i < length xs → x ≡ get_or xs i x → true ≡ test x
-      → ((j : ℕ) (d : X) → j < i → test (get_or xs j d) ≡ false) → FirstAt test xs i
-  first_found xs i x l is e before =
-      record { within = l; passes = at_read xs (λ y. test y ≡ true) i x l is (sym e); before = before }
 
   pub any_at : (xs : List X) (i : ℕ) (d : X) → i < length xs → test (get_or xs i d) ≡ true → any_passes test xs ≡ true
   any_at [] i d l e = absurd (omega arith)

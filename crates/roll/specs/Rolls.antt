@@ -7,7 +7,7 @@ use Rattle.roll.specs.declared.fault.RollFault.TheVariants.{Full, NotUsed}
 
 -- all its places
 abbrev pub table_of : {T : Type 0} → Roll T → List T
-table_of r = r.table.places.now
+table_of r = r.places.now
 
 -- the used ones
 abbrev pub items_of : {T : Type 0} → Roll T → List T
@@ -15,7 +15,7 @@ items_of r = take r.used (table_of r)
 
 -- who lent the places
 abbrev pub lender_of : {T : Type 0} → Roll T → GName
-lender_of r = r.table.places.ghost_name
+lender_of r = r.places.ghost_name
 
 -- one element more: at the end of the used ones, and at that place of the table alone
 pub record Grown {T : Type 0} (before : Roll T) (x : T) (after : Roll T) : Type 0 where

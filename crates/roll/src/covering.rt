@@ -19,10 +19,5 @@ pub fn first_covering<C: Covering>(items: &[C], point: &C::Point) -> Option<usiz
     ensures cases { First (λ x. C.Covering.covering x point.now) items.now result }
     ensures only { OnlyFirst (λ x. C.Covering.covering x point.now) items.now result }
 {
-    for (place, item) in items.iter().enumerate() {
-        if item.covers(point) {
-            return Some(place);
-        }
-    }
-    None
+    items.iter().position(|item| item.covers(point))
 }

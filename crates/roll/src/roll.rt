@@ -3,13 +3,10 @@
 ghost use Rattle.std.specs.Prelude.{◌≤◌, length};
 
 pub mod calls;
-pub mod table;
-
-use table::Table;
 
 #[derive(Drop)]
 pub struct Roll<'a, T> {
-    table: Table<'a, T>,
+    places: &'a mut [T],
     used: usize,
-    ghost within: { used ≤ length table.places.now },
+    ghost within: { used ≤ length places.now },
 }

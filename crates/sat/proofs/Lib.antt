@@ -3,5 +3,4 @@ pub mod Decisions
 pub mod Laws
 pub mod Loops
 pub mod Narrowing
-pub mod Ranges
 pub mod Cases

@@ -1,5 +1,6 @@
 -- Why a solver refuses a call: the number of each refusal, and when it comes. Within a call the lowest number comes first.
-use Rattle.std.specs.Prelude.{ℕ, Bool, true, cond, ◌&&◌, List, [], ◌∷◌, length, Some, None, Option, nat_le, nat_lt}
+use Rattle.std.specs.Prelude.{ℕ, Bool, cond, ◌&&◌, List, length, Some, None, Option, nat_le, nat_lt}
+use Rattle.std.specs.List.{list_all}
 use Rattle.literal.specs.declared.Literal.{Literal}
 use Rattle.literal.specs.Truth.{variable_of}
 use Rattle.sat.specs.declared.fault.SolverFault.{SolverFault}
@@ -19,10 +20,13 @@ fault_number FirstExceeded = 26
 abbrev pub most_literals : ℕ
 most_literals = 64
 
--- whether each literal's variable is one of 1 to V
+-- whether a literal's variable is one of 1 to V
+abbrev pub is_one_of : ℕ → Literal → Bool
+is_one_of V l = nat_lt 0 (variable_of l) && nat_le (variable_of l) V
+
+-- whether each literal's is
 abbrev pub in_range : ℕ → List Literal → Bool
-in_range V [] = true
-in_range V (l ∷ ls) = (nat_lt 0 (variable_of l) && nat_le (variable_of l) V) && in_range V ls
+in_range V ls = list_all (is_one_of V) ls
 
 -- the refusals that clauses and assumptions share, and then the others
 unfoldable pub literals_fault : ℕ → List Literal → Option SolverFault → Option SolverFault
@@ -50,5 +54,4 @@ narrow_fault V assumed first values marks =
 
 -- whether each clause is in range
 abbrev pub all_in_range : ℕ → List Clause → Bool
-all_in_range V [] = true
-all_in_range V (c ∷ cs) = in_range V c && all_in_range V cs
+all_in_range V cs = list_all (in_range V) cs

@@ -6,7 +6,6 @@ ghost use Rattle.std.specs.Prelude.{◌≡◌, min, ◌++◌, length, drop, repl
 pub fn fill_front(bytes: &mut [u8], count: usize, byte: u8)
     ensures { bytes.new ≡ replicate (min count (length bytes.old)) byte ++ drop count bytes.old }
 {
-    for i in 0..count.min(bytes.len()) {
-        bytes[i] = byte;
-    }
+    let end = count.min(bytes.len());
+    bytes[..end].fill(byte);
 }

@@ -14,15 +14,13 @@ pub const MAX_LITERALS: usize = 64;
 fn in_range(literals: &[Literal], variables: usize) -> bool
     ensures { result ≡ in_range variables literals.now }
 {
-    for literal in literals {
+    literals.iter().all(|literal| {
         let variable = literal.variable();
-        if variable == 0 || variable > variables {
-            return false;
-        }
-    }
-    true
+        variable != 0 && variable <= variables
+    })
 }
 
+#[tactic(auto, unfolding(crate::specs::Faults::literals_fault))]
 fn check_literals(literals: &[Literal], variables: usize) -> Result<(), SolverFault>
     ensures { result_err result ≡ literals_fault variables literals.now None }
 {
@@ -36,6 +34,7 @@ fn check_literals(literals: &[Literal], variables: usize) -> Result<(), SolverFa
 }
 
 // A clause, where so many cells are left free.
+#[tactic(auto, unfolding(crate::specs::Faults::literals_fault, crate::specs::Faults::hold_fault))]
 pub fn check_hold(clause: &[Literal], variables: usize, free: usize) -> Result<(), SolverFault>
     ensures { result_err result ≡ hold_fault variables free clause.now }
 {
@@ -48,6 +47,7 @@ pub fn check_hold(clause: &[Literal], variables: usize, free: usize) -> Result<(
 }
 
 // Leaving the first `kept` of `count` clauses.
+#[tactic(auto, unfolding(crate::specs::Faults::keep_fault))]
 pub fn check_keep(count: usize, kept: usize) -> Result<(), SolverFault>
     ensures { result_err result ≡ keep_fault count kept }
 {
@@ -59,6 +59,7 @@ pub fn check_keep(count: usize, kept: usize) -> Result<(), SolverFault>
 }
 
 // Assumptions, and the lengths of the buffers for values and for marks.
+#[tactic(auto, unfolding(crate::specs::Faults::literals_fault, crate::specs::Faults::decide_fault))]
 pub fn check_decide(
     assumed: &[Literal],
     variables: usize,
@@ -76,6 +77,7 @@ pub fn check_decide(
 }
 
 // The same, and how many assumptions are always to be marked.
+#[tactic(auto, unfolding(crate::specs::Faults::literals_fault, crate::specs::Faults::decide_fault, crate::specs::Faults::narrow_fault))]
 pub fn check_narrow(
     assumed: &[Literal],
     variables: usize,

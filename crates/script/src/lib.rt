@@ -4,7 +4,7 @@
 ghost use Rattle.std.specs.Prelude.{◌≡◌};
 ghost use Rattle.script.specs.Asked.{word_of, asked_of, AskedLaw};
 
-use text::cut;
+use text::{cut, digit};
 
 // A step that is asked for.
 #[derive(Clone, Copy, PartialEq, Eq, Debug)]
@@ -15,15 +15,10 @@ pub struct Asked {
 
 // Two words of decimal digits, parted by one space. A number past the largest of 32 bits is read as that one: it is large, and no
 // slip of the pen.
+#[tactic(auto, using(crate::proofs::Asks::asked_law))]
 pub fn read_line(line: &[u8]) -> Option<Asked>
     ensures value { result ≡ asked_of line.now }
     ensures law { AskedLaw line.now result }
-{
-    two_words(line)
-}
-
-fn two_words(line: &[u8]) -> Option<Asked>
-    ensures { result ≡ asked_of line.now }
 {
     let (first, second) = cut(line, b' ')?;
     let event = word(first)?;
@@ -38,12 +33,9 @@ fn word(bytes: &[u8]) -> Option<u32>
         return None;
     }
     let mut value: u32 = 0;
-    for b in bytes {
-        if *b < b'0' || *b > b'9' {
-            return None;
-        }
-        let longer = u64::from(value) * 10 + u64::from(*b - b'0');
-        value = longer.min(u64::from(u32::MAX)) as u32;
+    for byte in bytes {
+        let digit = digit(*byte)?;
+        value = value.saturating_mul(10).saturating_add(u32::from(digit));
     }
     Some(value)
 }

@@ -7,7 +7,7 @@ use aiger::ReadFault;
 use anyhow::anyhow;
 use circuit::record::MAX_GATES;
 use circuit::{Gate, Model, Record};
-use reply::reply_to;
+use reply::{reply_to, state_after};
 use std::io::{BufRead, BufReader};
 use std::process::ExitCode;
 use std::{env, fs, io};
@@ -66,13 +66,15 @@ fn tell_refusal(rt: &HostRuntime, fault: ReadFault) -> io::Result<()> {
 // Goes on from the state that each line leaves, from state 0.
 fn follow(rt: &HostRuntime, model: &Model) -> io::Result<()> {
     let mut state = 0;
-    let mut at: u64 = 0;
-    for line in BufReader::new(rt.alloc(), rt.stdin())?.split(rt.alloc(), b'\n') {
+    let lines = BufReader::new(rt.alloc(), rt.stdin())?.split(rt.alloc(), b'\n');
+    for (line, at) in lines.zip(1..) {
         let line = line?;
-        at = at.saturating_add(1);
         let reply = reply_to(model, state, at, line.as_slice());
-        println!(rt; "{reply}")?;
-        state = reply.state_after(state);
+        match reply {
+            Ok(step) => println!(rt; "{step}")?,
+            Err(fault) => println!(rt; "{fault}")?,
+        }
+        state = state_after(reply, state);
     }
     Ok(())
 }

@@ -26,24 +26,15 @@ mod tests {
         case: &Case,
     ) -> Result<bool, Fail> {
         for clause in case.clauses {
-            solver.hold(&[lit(clause[0]), lit(clause[1]), lit(clause[2])])?;
+            solver.hold(&clause.map(lit))?;
         }
-        let assumed = [lit(case.assumed[0]), lit(case.assumed[1])];
+        let assumed = case.assumed.map(lit);
         let mut values = [7u8; 16];
         let mut marks = [7u8; 2];
         let decided = solver.decide(&assumed, &mut values, &mut marks)?;
         let narrowed = solver.narrow(&assumed, 0, &mut values, &mut marks)?;
         assert_eq!(rt; decided, narrowed);
         Ok(decided == Answer::Yes)
-    }
-
-    // The same question to the layer over a solver.
-    fn layer_says_yes<S: Solver + Drop>(
-        rt: &impl Abort,
-        below: S,
-        case: &Case,
-    ) -> Result<bool, Fail> {
-        says_yes(rt, &mut Narrowing::new(below), case)
     }
 
     #[test]
@@ -63,7 +54,7 @@ mod tests {
         for case in &CASES {
             let mut numbers = [0u32; 256];
             let below = Splitting::new(&mut numbers, case.variables);
-            assert_eq!(rt; layer_says_yes(&rt, below, case)?, case.yes);
+            assert_eq!(rt; says_yes(&rt, &mut Narrowing::new(below), case)?, case.yes);
         }
         Ok(())
     }
@@ -73,7 +64,7 @@ mod tests {
         for case in &CASES {
             let mut numbers = [0u32; 256];
             let below = Counting::new(&mut numbers, case.variables);
-            assert_eq!(rt; layer_says_yes(&rt, below, case)?, case.yes);
+            assert_eq!(rt; says_yes(&rt, &mut Narrowing::new(below), case)?, case.yes);
         }
         Ok(())
     }
@@ -101,16 +92,12 @@ mod tests {
         Ok(())
     }
 
-    fn worked_layered<S: Solver + Drop>(rt: &impl Abort, below: S) -> Result<(), Fail> {
-        worked(rt, &mut Narrowing::new(below))
-    }
-
     #[test]
     fn worked_by_each(rt: HostRuntime) -> Result<(), Fail> {
         let mut numbers = [0u32; 64];
         worked(&rt, &mut Counting::new(&mut numbers, 2))?;
-        worked_layered(&rt, Counting::new(&mut numbers, 2))?;
-        worked_layered(&rt, Splitting::new(&mut numbers, 2))
+        worked(&rt, &mut Narrowing::new(Counting::new(&mut numbers, 2)))?;
+        worked(&rt, &mut Narrowing::new(Splitting::new(&mut numbers, 2)))
     }
 
     // The edges of every refusal of a solver with 3 variables and 20 cells that holds nothing.
@@ -163,17 +150,13 @@ mod tests {
         Ok(())
     }
 
-    fn refuses_layered<S: Solver + Drop>(rt: &impl Abort, below: S) -> Result<(), Fail> {
-        refuses(rt, &mut Narrowing::new(below))
-    }
-
     #[test]
     fn refused_by_each(rt: HostRuntime) -> Result<(), Fail> {
         let mut numbers = [0u32; 20];
         refuses(&rt, &mut Counting::new(&mut numbers, 3))?;
-        refuses_layered(&rt, Counting::new(&mut numbers, 3))?;
+        refuses(&rt, &mut Narrowing::new(Counting::new(&mut numbers, 3)))?;
         let mut more = [0u32; 36];
-        refuses_layered(&rt, Splitting::new(&mut more, 3))
+        refuses(&rt, &mut Narrowing::new(Splitting::new(&mut more, 3)))
     }
 
     // No variables, no clauses; then the empty clause, which nothing satisfies; then nothing again.
@@ -188,16 +171,12 @@ mod tests {
         Ok(())
     }
 
-    fn empty_layered<S: Solver + Drop>(rt: &impl Abort, below: S) -> Result<(), Fail> {
-        empty(rt, &mut Narrowing::new(below))
-    }
-
     #[test]
     fn empty_in_each(rt: HostRuntime) -> Result<(), Fail> {
         let mut numbers = [0u32; 5];
         empty(&rt, &mut Counting::new(&mut numbers, 0))?;
-        empty_layered(&rt, Counting::new(&mut numbers, 0))?;
-        empty_layered(&rt, Splitting::new(&mut numbers, 0))
+        empty(&rt, &mut Narrowing::new(Counting::new(&mut numbers, 0)))?;
+        empty(&rt, &mut Narrowing::new(Splitting::new(&mut numbers, 0)))
     }
 
     // Contradictory and repeated assumptions: one of two that are the same is dropped.
@@ -213,16 +192,12 @@ mod tests {
         Ok(())
     }
 
-    fn contradicted_layered<S: Solver + Drop>(rt: &impl Abort, below: S) -> Result<(), Fail> {
-        contradicted(rt, &mut Narrowing::new(below))
-    }
-
     #[test]
     fn contradicted_in_each(rt: HostRuntime) -> Result<(), Fail> {
         let mut numbers = [0u32; 8];
         contradicted(&rt, &mut Counting::new(&mut numbers, 1))?;
-        contradicted_layered(&rt, Counting::new(&mut numbers, 1))?;
-        contradicted_layered(&rt, Splitting::new(&mut numbers, 1))
+        contradicted(&rt, &mut Narrowing::new(Counting::new(&mut numbers, 1)))?;
+        contradicted(&rt, &mut Narrowing::new(Splitting::new(&mut numbers, 1)))
     }
 
     #[test]

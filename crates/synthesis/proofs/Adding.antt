@@ -1,14 +1,15 @@
 -- What is left when a row or an exception is added, and that both solvers have room for it.
-use Rattle.std.proofs.Common.{◌≡◌, ℕ, ◌+◌, ◌-◌, ◌*◌, ◌<◌, ◌≤◌, true, false, ◌||◌, List, [], ◌∷◌, ◌++◌, length, take, set, replicate, sym, refl, ap, ◌∙◌, subst, inl, inr, arith}
-use Rattle.std.proofs.lemmas.List.{length-take, length-set, length-replicate, length_push, append-nil}
+use Rattle.std.proofs.Common.{◌≡◌, ℕ, ◌+◌, ◌-◌, ◌*◌, ◌<◌, ◌≤◌, Bool, true, false, ◌||◌, List, [], ◌∷◌, ◌++◌, length, is_ok, Some, None, Ok, Err, Result, take, replicate, sym, refl, ap, ◌∙◌, subst, inl, inr, arith}
+use Rattle.std.specs.Bool.{then_some}
+use Rattle.std.proofs.lemmas.Bool.{both_ways}
+use Rattle.std.proofs.lemmas.List.{length-take, length-set, length_push, append-nil}
 use Rattle.circuit.specs.declared.record.Gate.{Gate}
 use Rattle.circuit.specs.declared.record.Record.{Record}
-use Rattle.circuit.specs.Sound.{sound}
-use Rattle.sat.specs.Clauses.{Clause, cells_of}
+use Rattle.sat.specs.Clauses.{Meaning, cells_of}
 use Rattle.roll.specs.declared.roll.Roll.{Roll}
-use Rattle.roll.specs.Rolls.{items_of, table_of}
-use Rattle.game.specs.Models.{arena_of}
-use Rattle.game.specs.Rows.{blank_row, blank_exception, row_covers, covered, GoodRow, GoodRows, GoodException, GoodExceptions, RowDue, ExceptionDue}
+use Rattle.roll.specs.declared.fault.RollFault.{RollFault}
+use Rattle.roll.specs.Rolls.{items_of, table_of, Grown, NoPlace, Appended}
+use Rattle.game.specs.Rows.{blank_row, row_covers, covered, GoodRow, GoodRows, GoodException, GoodExceptions, RowDue, ExceptionDue}
 use Rattle.game.specs.Runs as runs
 use Rattle.game.specs.declared.exception.Exception.{Exception}
 use Rattle.game.specs.declared.row.Row.{Row}
@@ -19,7 +20,9 @@ use Rattle.encoding.specs.Clauses.{answer_row, answer_clauses, candidate_row, ex
 use Rattle.encoding.specs.Laws.{candidate_row_cells, candidate_base_cells, answer_row_cells, exception_cells}
 use Rattle.encoding.proofs.Sizes.{answer_fits, candidate_fits}
 use Rattle.synthesis.specs.Held.{fixed_clauses}
-use Rattle.synthesis.specs.Runs.{Laid, Roomy, Turning, Nearer}
+use Rattle.synthesis.specs.declared.fault.RunFault.TheVariants.{RowsFull, ExceptionsFull}
+use Rattle.synthesis.specs.declared.verdict.Verdict.TheVariants.{Lost}
+use Rattle.synthesis.specs.Runs.{Lent, lent, record_of, gates_of, arena, places_of, exception_places_of, Laid, Roomy, Turning, Halted, Turned}
 use Rattle.synthesis.proofs.Ends.{laid_more}
 use Rattle.synthesis.proofs.Growing.{candidate_fixed, candidate_keep, candidate_row_lem, candidate_exception, answer_row_lem, one_more, as_many}
 
@@ -27,129 +30,167 @@ use Rattle.synthesis.proofs.Growing.{candidate_fixed, candidate_keep, candidate_
 pub used_few : {X : Type 0} (roll : Roll X) → length (items_of roll) ≤ length (table_of roll)
 used_few roll = omega (arith, length-take roll.used (table_of roll))
 
-pub laid_same : (R E : ℕ) (rows rows' : Roll Row) (xs xs' : Roll Exception) → Laid R E rows xs → items_of rows' ≡ items_of rows → table_of rows' ≡ table_of rows
-    → table_of xs' ≡ table_of xs → Laid R E rows' xs'
-laid_same R E rows rows' xs xs' l u p x = record {
-  places = ap length p ∙ l.places;
-  exception_places = ap length x ∙ l.exception_places;
-  blank = p ∙ l.blank ∙ ap (λ is. is ++ replicate (R - length is) blank_row) (sym u);
-}
+-- an element that was put found a free place, and one that was not found none
+pub grown : {X : Type 0} (before after : Roll X) (x : X) (r : Result (Unit {0}) RollFault) → Appended before x r after → true ≡ is_ok r → Grown before x after
+grown before after x (Ok u) a e = a
+grown before after x (Err f) a e = absurd (both_ways true e refl)
 
-module _ (r : Record) (gs : List Gate) (fit : sound r gs ≡ true) (R E V cells W cellsW : ℕ) (room : Roomy r R E V cells W cellsW) (items : List Row) (xs : List Exception) where
-  pub fixed_cells : length items ≤ R → cells_of (fixed_clauses r gs items) ≤ candidate_base_cells r + candidate_row_cells r * length items
-  fixed_cells l =
-      let f = ((candidate_fits r gs fit V (omega (arith, room.candidate_variables)) R room.candidate_variables).all items [] l).few in
+pub no_place : {X : Type 0} (before after : Roll X) (x : X) (r : Result (Unit {0}) RollFault) → Appended before x r after → false ≡ is_ok r
+    → (f : RollFault) × NoPlace before after f
+no_place before after x (Ok u) a e = absurd (both_ways true (sym e) refl)
+no_place before after x (Err f) a e = (f, a)
+
+pub laid_same : (l : Lent) (rows' : Roll Row) (xs' : Roll Exception) (c a : Meaning) (w : List ℕ) → Laid l → items_of rows' ≡ items_of l.rows
+    → table_of rows' ≡ table_of l.rows → Laid (lent l.model rows' xs' c a w)
+laid_same l rows' xs' c a w d u p =
+    p ∙ d ∙ ap (λ is. is ++ replicate (places_of l - length is) blank_row) (sym u)
+    ∙ ap (λ t. items_of rows' ++ replicate (length t - length (items_of rows')) blank_row) (sym p)
+
+module _ (l : Lent) (room : Roomy l) (items : List Row) (xs : List Exception) where
+  abbrev r : Record
+  r = record_of l
+
+  abbrev gs : List Gate
+  gs = gates_of l
+
+  pub fixed_cells : length items ≤ places_of l → cells_of (fixed_clauses r gs items) ≤ candidate_base_cells r + candidate_row_cells r * length items
+  fixed_cells h =
+      let f = ((candidate_fits r gs l.model.fit l.candidate.variables (omega (arith, room.candidate_variables)) (places_of l) room.candidate_variables).all items [] h).few in
       let e : cells_of (candidate_clauses r gs items []) ≡ cells_of (fixed_clauses r gs items) = ap cells_of (candidate_fixed r gs items [] ∙ append-nil (fixed_clauses r gs items)) in
       omega arith
 
   -- there is room for one row more
-  pub row_cells : length items < R → cells_of (fixed_clauses r gs items) + candidate_row_cells r ≤ cells
-  row_cells l =
+  pub row_cells : length items < places_of l → cells_of (fixed_clauses r gs items) + candidate_row_cells r ≤ l.candidate.cells
+  row_cells h =
       let f = fixed_cells (omega arith) in
-      let p = one_more (candidate_row_cells r) (length items) R l in
+      let p = one_more (candidate_row_cells r) (length items) (places_of l) h in
       omega (arith, room.candidate_cells)
 
-  pub answer_cells_lem : length items < R → cells_of (answer_clauses r gs items) + answer_row_cells r ≤ cellsW
-  answer_cells_lem l =
-      let f = ((answer_fits r gs fit W room.answer_variables).all items).few in
-      let p = one_more (answer_row_cells r) (length items) R l in
+  pub answer_cells_lem : length items < places_of l → cells_of (answer_clauses r gs items) + answer_row_cells r ≤ l.answer.cells
+  answer_cells_lem h =
+      let f = ((answer_fits r gs l.model.fit l.answer.variables room.answer_variables).all items).few in
+      let p = one_more (answer_row_cells r) (length items) (places_of l) h in
       omega (arith, room.answer_cells)
 
   -- and for one exception more
-  pub exception_cells_lem : length items ≤ R → length xs < E → cells_of (candidate_clauses r gs items xs) + exception_cells r ≤ cells
-  exception_cells_lem l k =
-      let f = ((candidate_fits r gs fit V (omega (arith, room.candidate_variables)) R room.candidate_variables).all items xs l).few in
-      let p = as_many (candidate_row_cells r) (length items) R l in
-      let q = one_more (exception_cells r) (length xs) E k in
+  pub exception_cells_lem : length items ≤ places_of l → length xs < exception_places_of l → cells_of (candidate_clauses r gs items xs) + exception_cells r ≤ l.candidate.cells
+  exception_cells_lem h k =
+      let f = ((candidate_fits r gs l.model.fit l.candidate.variables (omega (arith, room.candidate_variables)) (places_of l) room.candidate_variables).all items xs h).few in
+      let p = as_many (candidate_row_cells r) (length items) (places_of l) h in
+      let q = one_more (exception_cells r) (length xs) (exception_places_of l) k in
       omega (arith, room.candidate_cells)
 
-module _ (r : Record) (gs : List Gate) (R E : ℕ) (rows : Roll Row) (xs : Roll Exception) (held heldA : List Clause)
-    (t : Turning r gs R E rows xs held heldA) where
+module _ (l : Lent) (t : Turning l) where
   -- every place is used and a row is due
-  pub rows_full : (rows' : Roll Row) (place : ℕ) → length (table_of rows) ≤ length (items_of rows) → items_of rows' ≡ items_of rows
-      → place ≡ length (items_of rows) → RowDue (arena_of r gs) (items_of rows) → runs.RowsFull (arena_of r gs) R (items_of rows') × (place ≡ length (items_of rows'))
-  rows_full rows' place full u p due =
-      let P : List Row → Type 0 = λ is. runs.RowsFull (arena_of r gs) R is × (place ≡ length is) in
-      subst P (sym u) (record { rows = t.good_rows; full = (let few = used_few rows in omega (arith, t.laid.places)); due = due; reset_open = t.reset_open }, p)
+  pub rows_full : (rows' : Roll Row) (f : RollFault) (place : ℕ) → NoPlace l.rows rows' f → place ≡ length (items_of l.rows) → RowDue (arena l) (items_of l.rows)
+      → Halted (lent l.model rows' l.exceptions l.candidate l.answer l.work) (Err (RowsFull place))
+  rows_full rows' f place n p due =
+      let P : List Row → Type 0 = λ is. runs.RowsFull (arena l) (places_of l) is × (place ≡ length is) in
+      let Q : List Row → Type 0 = λ ts. runs.RowsFull (arena l) (length ts) (items_of rows') × (place ≡ length (items_of rows')) in (
+        laid_same l rows' l.exceptions l.candidate l.answer l.work t.laid n.used n.places,
+        subst Q (sym n.places) (subst P (sym n.used)
+            (record { rows = t.good_rows; full = (let few = used_few l.rows in let full = n.full in omega arith); due = due; reset_open = t.reset_open }, p)),
+      )
 
-  module _ (row : Row) (good : GoodRow (arena_of r gs) (items_of rows) row) (rows' : Roll Row) (xs' : Roll Exception)
-      (free : length (items_of rows) < length (table_of rows)) (u : items_of rows' ≡ items_of rows ++ (row ∷ []))
-      (p : table_of rows' ≡ set (table_of rows) (length (items_of rows)) row) (e : items_of xs' ≡ [])
-      (q : table_of xs' ≡ replicate (length (table_of xs)) blank_exception) where
-    pub row_laid : Laid R E rows' xs'
-    row_laid = record {
-      places = ap length p ∙ length-set (table_of rows) (length (items_of rows)) row ∙ t.laid.places;
-      exception_places = ap length q ∙ length-replicate (length (table_of xs)) blank_exception ∙ t.laid.exception_places;
-      blank = p ∙ laid_more blank_row (table_of rows) (items_of rows) R row (omega (arith, t.laid.places)) t.laid.blank
-          ∙ ap (λ is. is ++ replicate (R - length is) blank_row) (sym u);
-    }
+  module _ (row : Row) (fine : GoodRow (arena l) (items_of l.rows) row) (rows' : Roll Row) (more : Grown l.rows row rows') (xs' : Roll Exception)
+      (e : items_of xs' ≡ []) (c a : Meaning) where
+    abbrev next : Lent
+    next = lent l.model rows' xs' c a l.work
 
-    row_rows : GoodRows (arena_of r gs) (items_of rows')
-    row_rows = let P : List Row → Type 0 = λ is. GoodRows (arena_of r gs) is in subst P (sym u) (rows_push (arena_of r gs) (items_of rows) row t.good_rows good)
+    same_places : length (table_of rows') ≡ places_of l
+    same_places = ap length more.places ∙ length-set (table_of l.rows) (length (items_of l.rows)) row
+
+    row_laid : Laid next
+    row_laid =
+        more.places ∙ laid_more blank_row (table_of l.rows) (items_of l.rows) (places_of l) row more.free t.laid
+        ∙ ap (λ is. is ++ replicate (places_of l - length is) blank_row) (sym more.used)
+        ∙ ap (λ k. items_of rows' ++ replicate (k - length (items_of rows')) blank_row) (sym same_places)
+
+    row_rows : GoodRows (arena l) (items_of rows')
+    row_rows = let P : List Row → Type 0 = λ is. GoodRows (arena l) is in subst P (sym more.used) (rows_push (arena l) (items_of l.rows) row t.good_rows fine)
 
     -- the next turn begins with a row more and no exceptions
-    pub row_turning : (held' heldA' : List Clause) (k : ℕ) → k ≡ length (fixed_clauses r gs (items_of rows)) → row_covers row 0 ≡ false
-        → held' ≡ take k held ++ candidate_row r row (length (items_of rows)) → heldA' ≡ heldA ++ (answer_row r row ∷ [])
-        → Turning r gs R E rows' xs' held' heldA' × Nearer (items_of rows) (items_of xs) (items_of rows') (items_of xs')
-    row_turning held' heldA' k kept out h a =
-        let X : List Exception → Type 0 = λ ys. GoodExceptions (arena_of r gs) (items_of rows') ys in (
+    pub row_turning : (k : ℕ) → k ≡ length (fixed_clauses (record_of l) (gates_of l) (items_of l.rows)) → row_covers row 0 ≡ false
+        → c.clauses ≡ take k l.candidate.clauses ++ candidate_row (record_of l) row (length (items_of l.rows))
+        → a.clauses ≡ l.answer.clauses ++ (answer_row (record_of l) row ∷ [])
+        → Turned l next (Ok None)
+    row_turning k kept out h g =
+        let r = record_of l in
+        let gs = gates_of l in
+        let X : List Exception → Type 0 = λ ys. GoodExceptions (arena l) (items_of rows') ys in (
           record {
             laid = row_laid;
             good_rows = row_rows;
-            good_exceptions = subst X (sym e) (exceptions_none (arena_of r gs) (items_of rows'));
-            reset_open = ap (λ is. covered is 0) u ∙ covered-++ (items_of rows) (row ∷ []) 0 ∙ ap (λ b. b || (row_covers row 0 || false)) t.reset_open ∙ ap (λ b. b || false) out;
-            candidate = h ∙ ap (λ cs. take k cs ++ candidate_row r row (length (items_of rows))) t.candidate
-                ∙ ap (λ cs. cs ++ candidate_row r row (length (items_of rows))) (candidate_keep r gs (items_of rows) (items_of xs) k kept)
-                ∙ candidate_row_lem r gs (items_of rows) row
-                ∙ ap (λ is. candidate_clauses r gs is []) (sym u) ∙ ap (candidate_clauses r gs (items_of rows')) (sym e);
-            answer = a ∙ ap (λ cs. cs ++ (answer_row r row ∷ [])) t.answer ∙ answer_row_lem r gs (items_of rows) row ∙ ap (answer_clauses r gs) (sym u);
+            good_exceptions = subst X (sym e) (exceptions_none (arena l) (items_of rows'));
+            reset_open = ap (λ is. covered is 0) more.used ∙ covered-++ (items_of l.rows) (row ∷ []) 0 ∙ ap (λ b. b || (row_covers row 0 || false)) t.reset_open ∙ ap (λ b. b || false) out;
+            candidate = h ∙ ap (λ cs. take k cs ++ candidate_row r row (length (items_of l.rows))) t.candidate
+                ∙ ap (λ cs. cs ++ candidate_row r row (length (items_of l.rows))) (candidate_keep r gs (items_of l.rows) (items_of l.exceptions) k kept)
+                ∙ candidate_row_lem r gs (items_of l.rows) row
+                ∙ ap (λ is. candidate_clauses r gs is []) (sym more.used) ∙ ap (candidate_clauses r gs (items_of rows')) (sym e);
+            answer = g ∙ ap (λ cs. cs ++ (answer_row r row ∷ [])) t.answer ∙ answer_row_lem r gs (items_of l.rows) row ∙ ap (answer_clauses r gs) (sym more.used);
           },
-          inl (ap length u ∙ length_push (items_of rows) row),
+          inl (ap length more.used ∙ length_push (items_of l.rows) row),
         )
 
     -- the host is lost where the row covers reset
-    pub row_lost : row_covers row 0 ≡ true → runs.GivenUp (arena_of r gs) R (items_of rows')
-    row_lost c =
-        let P : List Row → Type 0 = λ is. runs.GivenUp (arena_of r gs) R is in
-        let play = playable r gs in
-        subst P (sym u) (lost_run (arena_of r gs) play.in_range play.some_state (items_of rows) row R (rows_push (arena_of r gs) (items_of rows) row t.good_rows good)
-        (omega (arith, length_push (items_of rows) row, t.laid.places)) c t.reset_open)
+    pub row_lost : row_covers row 0 ≡ true → Turned l next (Ok (Some Lost))
+    row_lost in_reset =
+        let P : List Row → Type 0 = λ is. runs.GivenUp (arena l) (length (table_of rows')) is in
+        let play = playable (record_of l) (gates_of l) in
+        let free = more.free in
+        let same = same_places in (
+          row_laid,
+          subst P (sym more.used) (lost_run (arena l) play.in_range play.some_state (items_of l.rows) row (length (table_of rows')) (rows_push (arena l) (items_of l.rows) row t.good_rows fine)
+              (omega (arith, length_push (items_of l.rows) row)) in_reset t.reset_open),
+        )
+
+    -- a row's turn, by whether the row covers reset
+    pub row_turned : (k : ℕ) → k ≡ length (fixed_clauses (record_of l) (gates_of l) (items_of l.rows)) → (place : ℕ) → place ≡ length (items_of l.rows)
+        → c.clauses ≡ take k l.candidate.clauses ++ candidate_row (record_of l) row place
+        → a.clauses ≡ l.answer.clauses ++ (answer_row (record_of l) row ∷ [])
+        → (b : Bool) → b ≡ row_covers row 0 → Turned l next (Ok (then_some b Lost))
+    row_turned k kept place p h g true q = row_lost (sym q)
+    row_turned k kept place p h g false q =
+        row_turning k kept (sym q) (h ∙ ap (λ n. take k l.candidate.clauses ++ candidate_row (record_of l) row n) p) g
 
   -- every place is used and an exception is due
-  pub exceptions_full : (n : ℕ) → length (table_of xs) ≤ length (items_of xs) → n ≡ length (items_of rows)
-      → ExceptionDue (arena_of r gs) (items_of rows) (items_of xs) → runs.ExceptionsFull (arena_of r gs) R E (items_of rows) × (n ≡ length (items_of rows))
-  exceptions_full n full p due = (
-    record {
-      rows = t.good_rows;
-      within = (let few = used_few rows in omega (arith, t.laid.places));
-      exceptions = items_of xs;
-      good = t.good_exceptions;
-      full = (let few = used_few xs in omega (arith, t.laid.exception_places));
-      due = due;
-      reset_open = t.reset_open;
-    },
-    p,
-  )
+  pub exceptions_full : (xs' : Roll Exception) (f : RollFault) (n : ℕ) → NoPlace l.exceptions xs' f → n ≡ length (items_of l.rows)
+      → ExceptionDue (arena l) (items_of l.rows) (items_of l.exceptions)
+      → Halted (lent l.model l.rows xs' l.candidate l.answer l.work) (Err (ExceptionsFull n))
+  exceptions_full xs' f n stop p due =
+      let Q : List Exception → Type 0 = λ ts. runs.ExceptionsFull (arena l) (places_of l) (length ts) (items_of l.rows) in
+      let full = stop.full in (
+        t.laid,
+        (
+          subst Q (sym stop.places) (record {
+            rows = t.good_rows;
+            within = used_few l.rows;
+            exceptions = items_of l.exceptions;
+            good = t.good_exceptions;
+            full = (let few = used_few l.exceptions in omega arith);
+            due = due;
+            reset_open = t.reset_open;
+          }),
+          p,
+        ),
+      )
 
   -- the next turn begins with an exception more
-  pub exception_turning : (x : Exception) → GoodException (arena_of r gs) (items_of rows) (items_of xs) x → (xs' : Roll Exception)
-      → items_of xs' ≡ items_of xs ++ (x ∷ []) → table_of xs' ≡ set (table_of xs) (length (items_of xs)) x
-      → (held' : List Clause) → held' ≡ held ++ (exception_clause r x ∷ [])
-      → Turning r gs R E rows xs' held' heldA × Nearer (items_of rows) (items_of xs) (items_of rows) (items_of xs')
-  exception_turning x good xs' u p held' h =
-      let X : List Exception → Type 0 = λ ys. GoodExceptions (arena_of r gs) (items_of rows) ys in (
+  pub exception_turning : (x : Exception) → GoodException (arena l) (items_of l.rows) (items_of l.exceptions) x → (xs' : Roll Exception)
+      → Grown l.exceptions x xs' → (c : Meaning) → c.clauses ≡ l.candidate.clauses ++ (exception_clause (record_of l) x ∷ [])
+      → Turned l (lent l.model l.rows xs' c l.answer l.work) (Ok None)
+  exception_turning x fine xs' more c h =
+      let r = record_of l in
+      let gs = gates_of l in
+      let X : List Exception → Type 0 = λ ys. GoodExceptions (arena l) (items_of l.rows) ys in (
         record {
-          laid = record {
-            places = t.laid.places;
-            exception_places = ap length p ∙ length-set (table_of xs) (length (items_of xs)) x ∙ t.laid.exception_places;
-            blank = t.laid.blank;
-          };
+          laid = t.laid;
           good_rows = t.good_rows;
-          good_exceptions = subst X (sym u) (exceptions_push (arena_of r gs) (items_of rows) (items_of xs) x t.good_exceptions good);
+          good_exceptions = subst X (sym more.used) (exceptions_push (arena l) (items_of l.rows) (items_of l.exceptions) x t.good_exceptions fine);
           reset_open = t.reset_open;
-          candidate = h ∙ ap (λ cs. cs ++ (exception_clause r x ∷ [])) t.candidate ∙ candidate_exception r gs (items_of rows) (items_of xs) x
-              ∙ ap (candidate_clauses r gs (items_of rows)) (sym u);
+          candidate = h ∙ ap (λ cs. cs ++ (exception_clause r x ∷ [])) t.candidate ∙ candidate_exception r gs (items_of l.rows) (items_of l.exceptions) x
+              ∙ ap (candidate_clauses r gs (items_of l.rows)) (sym more.used);
           answer = t.answer;
         },
-        inr (refl, ap length u ∙ length_push (items_of xs) x),
+        inr (refl, ap length more.used ∙ length_push (items_of l.exceptions) x),
       )

@@ -1,27 +1,22 @@
 -- What is left when a run ends.
-use Rattle.std.proofs.Common.{◌≡◌, ℕ, suc, ◌+◌, ◌-◌, ◌<◌, ◌≤◌, min, Bool, true, false, cond, List, [], ◌∷◌, ◌++◌, length, take, drop, set, replicate, is_ok, Some, None, Ok, Err, Option, Result, sym, refl, ap, ◌∙◌, arith}
-use Rattle.std.proofs.lemmas.List.{drop_all, append-nil, append_assoc, length_push, set_at}
+use Rattle.std.proofs.Common.{◌≡◌, ℕ, suc, ◌-◌, ◌<◌, ◌≤◌, Bool, true, false, cond, List, [], ◌∷◌, ◌++◌, length, set, replicate, is_ok, Some, None, Ok, Err, Option, Result, sym, refl, ap, ◌∙◌, subst, arith}
+use Rattle.std.proofs.lemmas.List.{append_assoc, length_push, set_at}
 use Rattle.std.specs.Result.{result_err}
 use Rattle.sat.specs.declared.fault.SolverFault.{SolverFault}
 use Rattle.std.proofs.lemmas.Bool.{both_ways}
-use Rattle.sat.specs.Clauses.{Clause, cells_of}
+use Rattle.sat.specs.Clauses.{Clause, Meaning, with_first}
+use Rattle.sat.specs.Faults.{keep_fault}
+use Rattle.sat.proofs.Checks.{keep_passes}
 use Rattle.encoding.specs.Holding.{Whole}
 
 pub some_none : {X : Type 0} {Y : Type 0} (x : X) → Some x ≡ None → Y
 some_none x e = let z : ◌≡◌ {A = ℕ} 0 1 = cc in absurd (omega arith)
 
--- what a call that is not refused leaves
-pub held_ok : {X : Type 0} (a b after : List Clause) (r : Result X SolverFault) → result_err r ≡ None → after ≡ cond (is_ok r) a b → after ≡ a
-held_ok a b after (Ok x) e h = h
-held_ok a b after (Err f) e h = some_none f e
-
-pub kept_none : {X : Type 0} (cs after : List Clause) (r : Result X SolverFault) → result_err r ≡ None → after ≡ cond (is_ok r) (take 0 cs) cs → after ≡ []
-kept_none cs after r e h = held_ok [] cs after r e h
-
-pub filled_all : (bs : List ℕ) → replicate (min (length bs) (length bs)) 0 ++ drop (length bs) bs ≡ replicate (length bs) 0
-filled_all bs =
-    ap (λ t. replicate (min (length bs) (length bs)) 0 ++ t) (drop_all (length bs) bs (omega arith))
-    ∙ append-nil (replicate (min (length bs) (length bs)) 0) ∙ ap (λ k. replicate k 0) (omega arith)
+-- what keeping few enough clauses leaves
+pub kept : {X : Type 0} (m m' : Meaning) (p : ℕ) (r : Result X SolverFault) → result_err r ≡ keep_fault (length m.clauses) p
+    → m' ≡ cond (is_ok r) (with_first m p) m → p ≤ length m.clauses → m' ≡ with_first m p
+kept m m' p (Ok x) e h few = h
+kept m m' p (Err f) e h few = some_none f (e ∙ keep_passes (length m.clauses) p few)
 
 -- an element more takes the first blank place
 pub laid_more : {X : Type 0} (blank : X) (table items : List X) (R : ℕ) (x : X) → length items < R
@@ -45,10 +40,6 @@ ok_none (Ok x) h = refl
 ok_none (Err f) h = absurd (both_ways false refl h)
 
 -- clauses that are held whole, where the solver is as another one was
-pub whole_from : (variables need V cells V₀ cells₀ : ℕ) (before before₀ added after : List Clause) (ok : Bool)
-    → Whole variables need V cells before added after ok → V ≡ V₀ → cells ≡ cells₀ → before ≡ before₀
-    → variables ≤ V₀ → cells_of before₀ + need ≤ cells₀ → (ok ≡ true) × (after ≡ before₀ ++ added)
-whole_from variables need V cells V₀ cells₀ before before₀ added after ok w v k b fits room =
-    let same : cells_of before ≡ cells_of before₀ = ap cells_of b in
-    let p = w (omega arith) (omega arith) in
-    (p.0, p.1 ∙ ap (λ t. t ++ added) b)
+pub whole_from : (variables need : ℕ) (m m₀ : Meaning) (added : List Clause) (m' : Meaning) (ok : Bool) → Whole variables need m added m' ok → m ≡ m₀
+    → Whole variables need m₀ added m' ok
+whole_from variables need m m₀ added m' ok w e = let P : Meaning → Type 0 = λ k. Whole variables need k added m' ok in subst P e w

@@ -11,8 +11,6 @@ use Rattle.game.specs.declared.exception.Exception.{Exception}
 use Rattle.game.specs.declared.exception.Pair.{Pair}
 use Rattle.game.specs.declared.row.Row.{Row}
 use Rattle.encoding.specs.Literals.{due_literal, state_in, event_in, answer_in}
-use Rattle.synthesis.specs.declared.ask.Reply.{Reply}
-use Rattle.synthesis.specs.declared.ask.Reply.TheVariants.{Answered, Unanswered}
 use Rattle.synthesis.specs.Narrow.{row_asked, row_from, exception_asked, first_asked, exception_from}
 
 -- values at which something is due say the state and the event. Which values is free
@@ -41,9 +39,9 @@ pub record NoAnswer (r : Record) (cs : List Clause) (s e : ℕ) (row : Row) : Ty
   pub narrowed : Narrowed cs (row_asked r s e) (event_count (inputs_of r)) before marks
   pub made : row ≡ row_from r s e marks
 
-abbrev pub Replied : Record → List Clause → ℕ → ℕ → Result Reply SolverFault → Type 0
-Replied r cs s e (Ok (Answered a)) = FoundAnswer r cs s e a
-Replied r cs s e (Ok (Unanswered row)) = NoAnswer r cs s e row
+abbrev pub Replied : Record → List Clause → ℕ → ℕ → Result (Result ℕ Row) SolverFault → Type 0
+Replied r cs s e (Ok (Ok a)) = FoundAnswer r cs s e a
+Replied r cs s e (Ok (Err row)) = NoAnswer r cs s e row
 Replied r cs s e (Err f) = ⊥
 
 -- marks of a narrow no give an exception

@@ -3,6 +3,7 @@ use Rattle.std.specs.Prelude.{ℕ, ◌+◌, ◌*◌, max, Bool, cond, ◌&&◌, 
 use Rattle.circuit.specs.declared.record.Record.{Record}
 use Rattle.circuit.specs.Parts.{inputs_of}
 use Rattle.circuit.specs.Sound.{event_count}
+use Rattle.synthesis.specs.declared.sizes.Room.{Room}
 use Rattle.synthesis.specs.declared.sizes.Sizes.{Sizes}
 use Rattle.synthesis.specs.declared.fault.RunFault.{RunFault}
 use Rattle.synthesis.specs.declared.fault.RunFault.TheVariants.{TooManyPlaces, CandidateSmall, AnswerSmall, WorkShort}
@@ -22,20 +23,31 @@ variables_of_answer r = r.maximum + 2
 abbrev pub cells_of_answer : Record → ℕ → ℕ
 cells_of_answer r R = 10 * r.gate_count + (r.latch_count + 1) * R + 8
 
+abbrev pub room : ℕ → ℕ → Room
+room V cells = record { variables = V; cells = cells }
+
+abbrev pub candidate_need : Record → Sizes → Room
+candidate_need r s = room (variables_of_candidate r s.rows) (cells_of_candidate r s.rows s.exceptions)
+
+abbrev pub answer_need : Record → Sizes → Room
+answer_need r s = room (variables_of_answer r) (cells_of_answer r s.rows)
+
+-- whether what is needed is there
+abbrev pub room_fits : Room → Room → Bool
+room_fits need r = nat_le need.variables r.variables && nat_le need.cells r.cells
+
 abbrev pub places_fit : Sizes → Bool
 places_fit s = nat_le s.rows 1024 && nat_le s.exceptions 4096
 
 abbrev pub candidate_fits : Record → Sizes → Bool
-candidate_fits r s =
-    nat_le (variables_of_candidate r s.rows) s.candidate_variables
-    && nat_le (cells_of_candidate r s.rows s.exceptions) s.candidate_cells
+candidate_fits r s = room_fits (candidate_need r s) s.candidate
 
 abbrev pub answer_fits : Record → Sizes → Bool
-answer_fits r s = nat_le (variables_of_answer r) s.answer_variables && nat_le (cells_of_answer r s.rows) s.answer_cells
+answer_fits r s = room_fits (answer_need r s) s.answer
 
 -- the value bytes of either solver
 abbrev pub work_fits : Sizes → Bool
-work_fits s = nat_lt (max s.candidate_variables s.answer_variables) s.work
+work_fits s = nat_lt (max s.candidate.variables s.answer.variables) s.work
 
 unfoldable pub size_fault : Record → Sizes → Option RunFault
 size_fault r s =

@@ -1,37 +1,42 @@
-// What a run starts from: no rows, no exceptions, and both solvers know the model's steps.
+// What a run starts from and what it leaves.
 
-ghost use Rattle.std.specs.Prelude.{◌≡◌, length, None};
+ghost use Rattle.std.specs.Prelude.{◌≡◌, None};
 ghost use Rattle.std.specs.Result.{result_err};
-ghost use Rattle.roll.specs.Rolls.{table_of};
-ghost use Rattle.synthesis.specs.Runs.{Roomy, Turning};
+ghost use Rattle.synthesis.specs.Runs.{Turning, Finished};
+ghost use Rattle.synthesis.specs.Searches.{Same, lent_to};
 
-use crate::empty::empty_solver;
-use circuit::Model;
+use crate::state::Search;
 use encoding::{hold_answer_base, hold_candidate_base};
 use game::{Exception, Row};
-use roll::Roll;
-use sat::{Solver, SolverFault};
+use sat::{NarrowingSolver, SolverFault};
 
-// Empties both solvers and both rolls, whatever they held. With these sizes it is never refused.
-pub fn begin<C: Solver, A: Solver>(
-    model: &Model<'_>,
-    candidate: &mut C,
-    answer: &mut A,
-    rows: &mut Roll<'_, Row>,
-    exceptions: &mut Roll<'_, Exception>,
-) -> Result<(), SolverFault>
-    requires { Roomy model.now.«record».now (length (table_of rows.old)) (length (table_of exceptions.old)) (C.Solver.variable_count candidate.old) (C.Solver.cell_count candidate.old) (A.Solver.variable_count answer.old) (A.Solver.cell_count answer.old) }
-    ensures ok { result_err result ≡ None }
-    ensures after { Turning model.now.«record».now model.now.gates.now (length (table_of rows.old)) (length (table_of exceptions.old)) rows.new exceptions.new (C.Solver.clauses candidate.new) (A.Solver.clauses answer.new) }
-    ensures same_variables { C.Solver.variable_count candidate.new ≡ C.Solver.variable_count candidate.old }
-    ensures same_cells { C.Solver.cell_count candidate.new ≡ C.Solver.cell_count candidate.old }
-    ensures same_answer_variables { A.Solver.variable_count answer.new ≡ A.Solver.variable_count answer.old }
-    ensures same_answer_cells { A.Solver.cell_count answer.new ≡ A.Solver.cell_count answer.old }
-{
-    rows.clear(Row::BLANK);
-    exceptions.clear(Exception::BLANK);
-    empty_solver(candidate)?;
-    empty_solver(answer)?;
-    hold_candidate_base(model, candidate)?;
-    hold_answer_base(model, answer)
+impl<C: NarrowingSolver, A: NarrowingSolver> Search<'_, '_, '_, '_, C, A> {
+    // Empties both solvers and both rolls, whatever they held, and gives both solvers the model's steps. With these sizes
+    // it is never refused.
+    pub fn begin(&mut self) -> Result<(), SolverFault>
+        ensures ok { result_err result ≡ None }
+        ensures after { Turning (lent_to self.new) }
+        ensures same { Same self.old self.new }
+    {
+        self.rows.clear(Row::BLANK);
+        self.exceptions.clear(Exception::BLANK);
+        self.candidate.keep(0)?;
+        self.answer.keep(0)?;
+        hold_candidate_base(self.model, self.candidate)?;
+        hold_answer_base(self.model, self.answer)
+    }
+
+    // Leaves nothing behind of what a run uses on its way: no exceptions, no clauses, a work buffer of zeros. It is never
+    // refused.
+    pub fn finish(&mut self) -> Result<(), SolverFault>
+        ensures ok { result_err result ≡ None }
+        ensures after { Finished (lent_to self.old) (lent_to self.new) }
+        ensures rows { self.new.rows.now ≡ self.old.rows.now }
+        ensures same { Same self.old self.new }
+    {
+        self.exceptions.clear(Exception::BLANK);
+        self.work.fill(0);
+        self.candidate.keep(0)?;
+        self.answer.keep(0)
+    }
 }

@@ -1,9 +1,9 @@
 // What the two solvers hold when a row comes: the exceptions go, and the row's clauses are added.
 
-ghost use Rattle.std.specs.Prelude.{◌≡◌, ◌+◌, ◌<◌, ◌≤◌, [], ◌∷◌, ◌++◌, length, take, None};
+ghost use Rattle.std.specs.Prelude.{◌≡◌, ◌+◌, ◌<◌, ◌≤◌, ◌++◌, length, take, None};
 ghost use Rattle.std.specs.Result.{result_err};
 ghost use Rattle.std.specs.List.{AllByRecursion};
-ghost use Rattle.sat.specs.Clauses.{cells_of};
+ghost use Rattle.sat.specs.Clauses.{cells_of, with_clause, with_clauses};
 ghost use Rattle.encoding.specs.Clauses.{answer_row, candidate_row};
 ghost use Rattle.encoding.specs.Laws.{RowFits, answer_variables, candidate_variables, answer_row_cells, candidate_row_cells};
 ghost use Rattle.synthesis.specs.Held.{fixed_clauses};
@@ -37,18 +37,14 @@ pub fn hold_row<C: Solver, A: Solver>(
     fixed: usize,
 ) -> Result<(), SolverFault>
     requires placed { place < 1024 }
-    requires kept { fixed ≤ length (C.Solver.clauses candidate.old) }
-    requires variables { candidate_variables model.now.«record».now (place + 1) ≤ C.Solver.variable_count candidate.old }
-    requires cells { cells_of (take fixed (C.Solver.clauses candidate.old)) + candidate_row_cells model.now.«record».now ≤ C.Solver.cell_count candidate.old }
-    requires answer_variables { answer_variables model.now.«record».now ≤ A.Solver.variable_count answer.old }
-    requires answer_cells { cells_of (A.Solver.clauses answer.old) + answer_row_cells model.now.«record».now ≤ A.Solver.cell_count answer.old }
+    requires kept { fixed ≤ length (C.Solver.meaning candidate.old).clauses }
+    requires variables { candidate_variables model.now.«record».now (place + 1) ≤ (C.Solver.meaning candidate.old).variables }
+    requires cells { cells_of (take fixed (C.Solver.meaning candidate.old).clauses) + candidate_row_cells model.now.«record».now ≤ (C.Solver.meaning candidate.old).cells }
+    requires answer_variables { answer_variables model.now.«record».now ≤ (A.Solver.meaning answer.old).variables }
+    requires answer_cells { cells_of (A.Solver.meaning answer.old).clauses + answer_row_cells model.now.«record».now ≤ (A.Solver.meaning answer.old).cells }
     ensures ok { result_err result ≡ None }
-    ensures after { C.Solver.clauses candidate.new ≡ take fixed (C.Solver.clauses candidate.old) ++ candidate_row model.now.«record».now row place }
-    ensures after_answer { A.Solver.clauses answer.new ≡ A.Solver.clauses answer.old ++ answer_row model.now.«record».now row ∷ [] }
-    ensures same_variables { C.Solver.variable_count candidate.new ≡ C.Solver.variable_count candidate.old }
-    ensures same_cells { C.Solver.cell_count candidate.new ≡ C.Solver.cell_count candidate.old }
-    ensures same_answer_variables { A.Solver.variable_count answer.new ≡ A.Solver.variable_count answer.old }
-    ensures same_answer_cells { A.Solver.cell_count answer.new ≡ A.Solver.cell_count answer.old }
+    ensures after { C.Solver.meaning candidate.new ≡ with_clauses (C.Solver.meaning candidate.old) (take fixed (C.Solver.meaning candidate.old).clauses ++ candidate_row model.now.«record».now row place) }
+    ensures after_answer { A.Solver.meaning answer.new ≡ with_clause (A.Solver.meaning answer.old) (answer_row model.now.«record».now row) }
 {
     candidate.keep(fixed)?;
     hold_candidate_row(model, candidate, row, place)?;

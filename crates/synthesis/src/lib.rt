@@ -2,18 +2,17 @@
 #![tactic(auto)]
 
 mod add;
-pub mod ask;
 mod begin;
-mod empty;
 pub mod fault;
 mod hold;
 mod questions;
 pub mod search;
 pub mod sizes;
+mod state;
 mod turn;
 pub mod verdict;
 
 pub use fault::RunFault;
 pub use search::run;
-pub use sizes::Sizes;
+pub use sizes::{Room, Sizes};
 pub use verdict::Verdict;

@@ -6,11 +6,12 @@ ghost use Rattle.encoding.specs.Laws.{answer_variables, candidate_variables};
 ghost use Rattle.synthesis.specs.Asked.{Found, Replied, Excepted};
 ghost use Rattle.synthesis.specs.Narrow.{exception_asked, row_from, exception_from};
 
-use crate::ask::Reply;
 use circuit::Model;
-use encoding::{Literals, answer_in, care_of, due_literal, event_in, state_in};
+use encoding::{
+    answer_in, care_of, due_literal, event_in, push_answer, push_event, push_state, state_in,
+};
 use game::{Exception, Pair, Row};
-use sat::{Answer, MAX_LITERALS, NarrowingSolver, Solver, SolverFault};
+use sat::{Answer, Literals, MAX_LITERALS, NarrowingSolver, Solver, SolverFault};
 
 // A state and an event at which something is due by so many rows.
 pub fn find_pair<C: Solver>(
@@ -20,12 +21,10 @@ pub fn find_pair<C: Solver>(
     work: &mut [u8],
 ) -> Result<Option<Pair>, SolverFault>
     requires few { rows ≤ 1024 }
-    requires variables { candidate_variables model.now.«record».now rows ≤ C.Solver.variable_count candidate.old }
-    requires room { C.Solver.variable_count candidate.old < length work.old }
-    ensures cases { Found model.now.«record».now rows (C.Solver.clauses candidate.old) result }
-    ensures same { C.Solver.clauses candidate.new ≡ C.Solver.clauses candidate.old }
-    ensures same_variables { C.Solver.variable_count candidate.new ≡ C.Solver.variable_count candidate.old }
-    ensures same_cells { C.Solver.cell_count candidate.new ≡ C.Solver.cell_count candidate.old }
+    requires variables { candidate_variables model.now.«record».now rows ≤ (C.Solver.meaning candidate.old).variables }
+    requires room { (C.Solver.meaning candidate.old).variables < length work.old }
+    ensures cases { Found model.now.«record».now rows (C.Solver.meaning candidate.old).clauses result }
+    ensures same { C.Solver.meaning candidate.new ≡ C.Solver.meaning candidate.old }
 {
     let due = due_literal(model, rows);
     let mut marks = [0u8; MAX_LITERALS];
@@ -58,21 +57,19 @@ pub fn find_answer<A: NarrowingSolver>(
     answer: &mut A,
     pair: Pair,
     work: &mut [u8],
-) -> Result<Reply, SolverFault>
-    requires variables { answer_variables model.now.«record».now ≤ A.Solver.variable_count answer.old }
-    requires room { A.Solver.variable_count answer.old < length work.old }
-    ensures cases { Replied model.now.«record».now (A.Solver.clauses answer.old) pair.state pair.event result }
-    ensures same { A.Solver.clauses answer.new ≡ A.Solver.clauses answer.old }
-    ensures same_variables { A.Solver.variable_count answer.new ≡ A.Solver.variable_count answer.old }
-    ensures same_cells { A.Solver.cell_count answer.new ≡ A.Solver.cell_count answer.old }
+) -> Result<Result<u32, Row>, SolverFault>
+    requires variables { answer_variables model.now.«record».now ≤ (A.Solver.meaning answer.old).variables }
+    requires room { (A.Solver.meaning answer.old).variables < length work.old }
+    ensures cases { Replied model.now.«record».now (A.Solver.meaning answer.old).clauses pair.state pair.event result }
+    ensures same { A.Solver.meaning answer.new ≡ A.Solver.meaning answer.old }
 {
     let mut assumed = Literals::none();
-    assumed.push_event(model, pair.event);
-    assumed.push_state(model, pair.state);
+    push_event(&mut assumed, model, pair.event);
+    push_state(&mut assumed, model, pair.state);
     let mut marks = [0u8; MAX_LITERALS];
     match answer.narrow(assumed.as_slice(), model.event_inputs(), work, &mut marks)? {
-        Answer::Yes => Ok(Reply::Answered(answer_in(model, work))),
-        Answer::No => Ok(Reply::Unanswered(row_from(model, pair, &marks))),
+        Answer::Yes => Ok(Ok(answer_in(model, work))),
+        Answer::No => Ok(Err(row_from(model, pair, &marks))),
     }
 }
 
@@ -103,19 +100,17 @@ pub fn find_exception<C: NarrowingSolver>(
     work: &mut [u8],
 ) -> Result<Exception, SolverFault>
     requires few { rows ≤ 1024 }
-    requires variables { candidate_variables model.now.«record».now rows ≤ C.Solver.variable_count candidate.old }
-    requires room { C.Solver.variable_count candidate.old < length work.old }
-    requires none { Unsatisfiable (C.Solver.clauses candidate.old) (exception_asked model.now.«record».now pair.state pair.event answer rows) }
-    ensures cases { Excepted model.now.«record».now (C.Solver.clauses candidate.old) pair.state pair.event answer rows result }
-    ensures same { C.Solver.clauses candidate.new ≡ C.Solver.clauses candidate.old }
-    ensures same_variables { C.Solver.variable_count candidate.new ≡ C.Solver.variable_count candidate.old }
-    ensures same_cells { C.Solver.cell_count candidate.new ≡ C.Solver.cell_count candidate.old }
+    requires variables { candidate_variables model.now.«record».now rows ≤ (C.Solver.meaning candidate.old).variables }
+    requires room { (C.Solver.meaning candidate.old).variables < length work.old }
+    requires none { Unsatisfiable (C.Solver.meaning candidate.old).clauses (exception_asked model.now.«record».now pair.state pair.event answer rows) }
+    ensures cases { Excepted model.now.«record».now (C.Solver.meaning candidate.old).clauses pair.state pair.event answer rows result }
+    ensures same { C.Solver.meaning candidate.new ≡ C.Solver.meaning candidate.old }
 {
     let mut assumed = Literals::none();
-    assumed.push_answer(model, answer);
+    push_answer(&mut assumed, model, answer);
     assumed.push(due_literal(model, rows));
-    assumed.push_state(model, pair.state);
-    assumed.push_event(model, pair.event);
+    push_state(&mut assumed, model, pair.state);
+    push_event(&mut assumed, model, pair.event);
     let mut marks = [0u8; MAX_LITERALS];
     let first = model.answer_inputs() + 1;
     match candidate.narrow(assumed.as_slice(), first, work, &mut marks)? {

@@ -1,99 +1,71 @@
 // The run: turns until the verdict is known or a roll is full.
 
-ghost use Rattle.std.specs.Prelude.{◌≡◌, ◌<◌, length};
-ghost use Rattle.game.specs.Models.{model_arena};
-ghost use Rattle.roll.specs.Rolls.{table_of};
-ghost use Rattle.synthesis.specs.Runs.{Roomy, Turning, Halted, Ran, RunGives, sizes_of};
-ghost use Rattle.synthesis.specs.Sizes.{size_fault};
+ghost use Rattle.std.specs.Prelude.{◌≡◌};
+ghost use Rattle.synthesis.specs.Runs.{Turning, Halted, Ran, RunGives, lent};
+ghost use Rattle.synthesis.specs.Searches.{Same, lent_to};
 
-use crate::begin::begin;
-use crate::empty::clean_up;
 use crate::fault::RunFault;
-use crate::sizes::Sizes;
-use crate::turn::turn;
+use crate::sizes::{Room, Sizes};
+use crate::state::Search;
 use crate::verdict::Verdict;
 use circuit::Model;
 use game::{Exception, Row};
 use roll::Roll;
 use sat::NarrowingSolver;
 
-// Turns, one after another. Each adds a row, or an exception to the same rows, so they end.
-fn take_turns<C: NarrowingSolver, A: NarrowingSolver>(
-    model: &Model<'_>,
-    candidate: &mut C,
-    answer: &mut A,
-    rows: &mut Roll<'_, Row>,
-    exceptions: &mut Roll<'_, Exception>,
-    work: &mut [u8],
-) -> Result<Verdict, RunFault>
-    requires room { Roomy model.now.«record».now (length (table_of rows.old)) (length (table_of exceptions.old)) (C.Solver.variable_count candidate.old) (C.Solver.cell_count candidate.old) (A.Solver.variable_count answer.old) (A.Solver.cell_count answer.old) }
-    requires turning { Turning model.now.«record».now model.now.gates.now (length (table_of rows.old)) (length (table_of exceptions.old)) rows.old exceptions.old (C.Solver.clauses candidate.old) (A.Solver.clauses answer.old) }
-    requires candidate_work { C.Solver.variable_count candidate.old < length work.old }
-    requires answer_work { A.Solver.variable_count answer.old < length work.old }
-    ensures after { Halted model.now.«record».now model.now.gates.now (length (table_of rows.old)) (length (table_of exceptions.old)) rows.new exceptions.new result }
-    ensures same_variables { C.Solver.variable_count candidate.new ≡ C.Solver.variable_count candidate.old }
-    ensures same_cells { C.Solver.cell_count candidate.new ≡ C.Solver.cell_count candidate.old }
-    ensures same_answer_variables { A.Solver.variable_count answer.new ≡ A.Solver.variable_count answer.old }
-    ensures same_answer_cells { A.Solver.cell_count answer.new ≡ A.Solver.cell_count answer.old }
-{
-    loop {
-        let ended = turn(model, candidate, answer, rows, exceptions, work)?;
-        if let Some(verdict) = ended {
-            return Ok(verdict);
+impl<C: NarrowingSolver, A: NarrowingSolver> Search<'_, '_, '_, '_, C, A> {
+    // Turns, one after another. Each adds a row, or an exception to the same rows, so they end.
+    fn take_turns(&mut self) -> Result<Verdict, RunFault>
+        requires turning { Turning (lent_to self.old) }
+        ensures after { Halted (lent_to self.new) result }
+        ensures same { Same self.old self.new }
+    {
+        loop {
+            if let Some(verdict) = self.turn()? {
+                return Ok(verdict);
+            }
         }
     }
-}
 
-// A run with sizes that are enough.
-fn search<C: NarrowingSolver, A: NarrowingSolver>(
-    model: &Model<'_>,
-    candidate: &mut C,
-    answer: &mut A,
-    rows: &mut Roll<'_, Row>,
-    exceptions: &mut Roll<'_, Exception>,
-    work: &mut [u8],
-) -> Result<(Verdict, usize), RunFault>
-    requires room { Roomy model.now.«record».now (length (table_of rows.old)) (length (table_of exceptions.old)) (C.Solver.variable_count candidate.old) (C.Solver.cell_count candidate.old) (A.Solver.variable_count answer.old) (A.Solver.cell_count answer.old) }
-    requires candidate_work { C.Solver.variable_count candidate.old < length work.old }
-    requires answer_work { A.Solver.variable_count answer.old < length work.old }
-    ensures ran { Ran (model_arena model.now) (length (table_of rows.old)) (length (table_of exceptions.old)) rows.new exceptions.new (C.Solver.clauses candidate.new) (A.Solver.clauses answer.new) work.new result }
-    ensures same_variables { C.Solver.variable_count candidate.new ≡ C.Solver.variable_count candidate.old }
-    ensures same_cells { C.Solver.cell_count candidate.new ≡ C.Solver.cell_count candidate.old }
-    ensures same_answer_variables { A.Solver.variable_count answer.new ≡ A.Solver.variable_count answer.old }
-    ensures same_answer_cells { A.Solver.cell_count answer.new ≡ A.Solver.cell_count answer.old }
-{
-    begin(model, candidate, answer, rows, exceptions)?;
-    let ended = take_turns(model, candidate, answer, rows, exceptions, work);
-    clean_up(candidate, answer, exceptions, work)?;
-    let verdict = ended?;
-    Ok((verdict, rows.count()))
+    // The whole run.
+    fn run(&mut self) -> Result<(Verdict, usize), RunFault>
+        ensures after { Ran (lent_to self.old) (lent_to self.new) result }
+        ensures same { Same self.old self.new }
+    {
+        self.begin()?;
+        let ended = self.take_turns();
+        self.finish()?;
+        Ok((ended?, self.rows.count()))
+    }
 }
 
 // Decides whether the host can keep its rules for ever from reset, and leaves the rows that show it. The candidate solver
 // is asked for what is due, the answer solver for answers; `work` takes their values.
-pub fn run<C: NarrowingSolver, A: NarrowingSolver>(
-    model: &Model<'_>,
-    candidate: &mut C,
-    answer: &mut A,
-    rows: &mut Roll<'_, Row>,
-    exceptions: &mut Roll<'_, Exception>,
-    work: &mut [u8],
+pub fn run<'a, C: NarrowingSolver, A: NarrowingSolver>(
+    model: &'a Model<'_>,
+    candidate: &'a mut C,
+    answer: &'a mut A,
+    rows: &'a mut Roll<'_, Row>,
+    exceptions: &'a mut Roll<'_, Exception>,
+    work: &'a mut [u8],
 ) -> Result<(Verdict, usize), RunFault>
-    ensures cases { RunGives (size_fault model.now.«record».now (sizes_of (length (table_of rows.old)) (length (table_of exceptions.old)) (C.Solver.variable_count candidate.old) (C.Solver.cell_count candidate.old) (A.Solver.variable_count answer.old) (A.Solver.cell_count answer.old) (length work.old))) (model_arena model.now) (length (table_of rows.old)) (length (table_of exceptions.old)) rows.old rows.new exceptions.old exceptions.new (C.Solver.clauses candidate.old) (C.Solver.clauses candidate.new) (A.Solver.clauses answer.old) (A.Solver.clauses answer.new) work.old work.new result }
-    ensures same_variables { C.Solver.variable_count candidate.new ≡ C.Solver.variable_count candidate.old }
-    ensures same_cells { C.Solver.cell_count candidate.new ≡ C.Solver.cell_count candidate.old }
-    ensures same_answer_variables { A.Solver.variable_count answer.new ≡ A.Solver.variable_count answer.old }
-    ensures same_answer_cells { A.Solver.cell_count answer.new ≡ A.Solver.cell_count answer.old }
+    ensures cases { RunGives (lent model.now rows.old exceptions.old (C.Solver.meaning candidate.old) (A.Solver.meaning answer.old) work.old) (lent model.now rows.new exceptions.new (C.Solver.meaning candidate.new) (A.Solver.meaning answer.new) work.new) result }
 {
     let sizes = Sizes {
         rows: rows.places(),
         exceptions: exceptions.places(),
-        candidate_variables: candidate.variables(),
-        candidate_cells: candidate.cells(),
-        answer_variables: answer.variables(),
-        answer_cells: answer.cells(),
+        candidate: Room::of(candidate),
+        answer: Room::of(answer),
         work: work.len(),
     };
     sizes.check(model)?;
-    search(model, candidate, answer, rows, exceptions, work)
+    let mut search = Search {
+        model,
+        candidate,
+        answer,
+        rows,
+        exceptions,
+        work,
+    };
+    search.run()
 }

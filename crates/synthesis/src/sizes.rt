@@ -2,33 +2,55 @@
 
 ghost use Rattle.std.specs.Prelude.{◌≡◌, ◌≤◌};
 ghost use Rattle.std.specs.Result.{result_err};
-ghost use Rattle.synthesis.specs.Sizes.{candidate_fits, answer_fits, size_fault};
+ghost use Rattle.synthesis.specs.Sizes.{room, room_fits, candidate_need, answer_need, size_fault};
 
 use crate::fault::RunFault;
 use circuit::Model;
+use sat::Solver;
 
 pub const MAX_ROWS: usize = 1024;
 
 pub const MAX_EXCEPTIONS: usize = 4096;
 
-// What a run is given: places of the two rolls, variables and cells of the two solvers, and the work buffer's length.
+// What a solver has, or what is needed of it.
+#[derive(Clone, Copy)]
+pub struct Room {
+    pub variables: usize,
+    pub cells: usize,
+}
+
+impl Room {
+    pub(crate) fn of<S: Solver>(solver: &S) -> Room
+        ensures { result ≡ room (S.Solver.meaning solver.now).variables (S.Solver.meaning solver.now).cells }
+    {
+        Room {
+            variables: solver.variables(),
+            cells: solver.cells(),
+        }
+    }
+
+    fn fits(self, need: Room) -> bool
+        ensures { result ≡ room_fits need self }
+    {
+        need.variables <= self.variables && need.cells <= self.cells
+    }
+}
+
+// What a run is given: places of the two rolls, the room of the two solvers, and the work buffer's length.
 #[derive(Clone, Copy)]
 pub struct Sizes {
     pub rows: usize,
     pub exceptions: usize,
-    pub candidate_variables: usize,
-    pub candidate_cells: usize,
-    pub answer_variables: usize,
-    pub answer_cells: usize,
+    pub candidate: Room,
+    pub answer: Room,
     pub work: usize,
 }
 
 impl Sizes {
-    // Whether the candidate solver is large enough.
-    fn candidate_fits(&self, model: &Model<'_>) -> bool
+    fn candidate_need(&self, model: &Model<'_>) -> Room
         requires rows { self.now.rows ≤ 1024 }
         requires exceptions { self.now.exceptions ≤ 4096 }
-        ensures { result ≡ candidate_fits model.now.«record».now self.now }
+        ensures { result ≡ candidate_need model.now.«record».now self.now }
     {
         let latches = model.latches();
         let cells = 10 * model.gates()
@@ -36,32 +58,33 @@ impl Sizes {
             + (latches + model.event_inputs() + 1) * self.exceptions
             + 8;
         let variables = model.maximum() as usize + 2 * self.rows + 2;
-        variables <= self.candidate_variables && cells <= self.candidate_cells
+        Room { variables, cells }
     }
 
-    // Whether the answer solver is.
-    fn answer_fits(&self, model: &Model<'_>) -> bool
+    fn answer_need(&self, model: &Model<'_>) -> Room
         requires { self.now.rows ≤ 1024 }
-        ensures { result ≡ answer_fits model.now.«record».now self.now }
+        ensures { result ≡ answer_need model.now.«record».now self.now }
     {
         let cells = 10 * model.gates() + (model.latches() + 1) * self.rows + 8;
-        model.maximum() as usize + 2 <= self.answer_variables && cells <= self.answer_cells
+        let variables = model.maximum() as usize + 2;
+        Room { variables, cells }
     }
 
     // Refuses sizes that are too small, or too many places.
+    #[tactic(auto, unfolding(crate::specs::Sizes::size_fault))]
     pub fn check(&self, model: &Model<'_>) -> Result<(), RunFault>
         ensures { result_err result ≡ size_fault model.now.«record».now self.now }
     {
         if self.rows > MAX_ROWS || self.exceptions > MAX_EXCEPTIONS {
             return Err(RunFault::TooManyPlaces);
         }
-        if !self.candidate_fits(model) {
+        if !self.candidate.fits(self.candidate_need(model)) {
             return Err(RunFault::CandidateSmall);
         }
-        if !self.answer_fits(model) {
+        if !self.answer.fits(self.answer_need(model)) {
             return Err(RunFault::AnswerSmall);
         }
-        if self.candidate_variables.max(self.answer_variables) < self.work {
+        if self.candidate.variables.max(self.answer.variables) < self.work {
             Ok(())
         } else {
             Err(RunFault::WorkShort)

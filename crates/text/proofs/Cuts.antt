@@ -1,4 +1,5 @@
-use Rattle.std.proofs.Common.{◌≡◌, ℕ, ◌+◌, ◌-◌, ◌<◌, ◌≤◌, true, eqb, List, [], ◌∷◌, ◌++◌, length, get_or, take, drop, Some, None, Option, sym, refl, ap, ◌∙◌, append_assoc, arith}
+use Rattle.std.proofs.Common.{position, ◌≡◌, ℕ, ◌+◌, ◌-◌, ◌<◌, ◌≤◌, true, eqb, List, [], ◌∷◌, ◌++◌, length, get_or, take, drop, Some, None, Option, sym, refl, ap, ◌∙◌, append_assoc, arith}
+use Rattle.std.specs.List.{position_or_len}
 use native.Mathlib.Nat.{sub-zero}
 use Rattle.std.proofs.lemmas.List.{take_more, drop_more, take_rest, drop_all, append-nil}
 use Rattle.std.proofs.lemmas.Bool.{cond-true, cond-false, ne_eqb, eq-eqb}
@@ -60,3 +61,14 @@ cut_law b bs r e =
 pub none_gives : (b : ℕ) (bs : List ℕ) → cut_at b bs ≡ None → without b bs ≡ true
 none_gives b [] e = refl
 none_gives b (x ∷ xs) e = grind (arith, nat_tests, none_gives b xs)
+
+-- where the mark first stands
+placed : (b : ℕ) (s : List ℕ) (i : ℕ) → i ≡ position_or_len (λ x. eqb x b) s → (i < length s → cut_at b s ≡ Some (record { front = take i s; back = drop (i + 1) s })) × (length s ≤ i → cut_at b s ≡ None)
+placed b [] i e = (λ h. absurd (omega arith), λ h. refl)
+placed b (x ∷ xs) i e = grind (arith, nat_tests, placed b xs (i - 1))
+
+pub cut_some : (b : ℕ) (s : List ℕ) (i : ℕ) → position (λ x. eqb x b) s ≡ Some i → Some (record { front = take i s; back = drop (i + 1) s }) ≡ cut_at b s
+cut_some b s i e = grind (arith, nat_tests, placed b s (position_or_len (λ x. eqb x b) s) refl)
+
+pub cut_absent : (b : ℕ) (s : List ℕ) → position (λ x. eqb x b) s ≡ None → None ≡ cut_at b s
+cut_absent b s e = grind (arith, nat_tests, placed b s (position_or_len (λ x. eqb x b) s) refl)

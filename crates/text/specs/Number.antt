@@ -9,6 +9,10 @@ decimal_in (suc k) n = cond (nat_lt n 10) ((48 + n) ∷ []) (decimal_in k (n / 1
 unfoldable pub decimal : ℕ → List ℕ
 decimal n = decimal_in 5 n
 
+-- the value of a digit
+abbrev pub digit_of : ℕ → Option ℕ
+digit_of b = cond (nat_lt b 48 || nat_lt 57 b) None (Some (b - 48))
+
 -- the value of some digits after a value; none where a byte is no digit or the value passes 65,535
 abbrev pub read_on : ℕ → List ℕ → Option ℕ
 read_on n [] = Some n

@@ -1,32 +1,38 @@
 // Numbers and fields of a line of text, as the file readers need them.
 #![tactic(auto)]
 
-ghost use Rattle.std.specs.Prelude.{◌≡◌, ℕ};
-ghost use Rattle.text.specs.Number.{number_of, Spelled};
+ghost use Rattle.std.specs.Prelude.{◌≡◌, ◌==◌, position};
+ghost use Rattle.text.specs.Number.{digit_of, read_on, number_of, Spelled};
 ghost use Rattle.text.specs.Cut.{cut_at, parts_of, taken_of, field_of, CutLaw, FieldLaw};
 
+// The value of a decimal digit.
+pub fn digit(byte: u8) -> Option<u8>
+    ensures { result ≡ digit_of byte }
+{
+    byte.checked_sub(b'0').filter(|digit| *digit < 10)
+}
+
 // The number that the whole of `bytes` spells in decimal: no leading zero, at most 65,535.
+#[tactic(auto, unfolding(crate::specs::Number::number_of), using(crate::proofs::Inverse::number_spelled))]
 pub fn number(bytes: &[u8]) -> Option<u16>
     ensures value { result ≡ number_of bytes.now }
     ensures spelled { Spelled bytes.now result }
 {
-    if bytes.len() == 0 {
-        return None;
+    match bytes {
+        [] | [b'0', _, ..] => None,
+        _ => digits(bytes),
     }
-    if bytes[0] == b'0' && bytes.len() > 1 {
-        return None;
+}
+
+fn digits(bytes: &[u8]) -> Option<u16>
+    ensures { result ≡ read_on 0 bytes.now }
+{
+    let mut number: u16 = 0;
+    for byte in bytes {
+        let digit = digit(*byte)?;
+        number = number.checked_mul(10)?.checked_add(u16::from(digit))?;
     }
-    let mut n: u32 = 0;
-    for b in bytes {
-        if *b < b'0' || *b > b'9' {
-            return None;
-        }
-        n = n * 10 + (*b - b'0') as u32;
-        if n > 65535 {
-            return None;
-        }
-    }
-    Some(n as u16)
+    Some(number)
 }
 
 // What stands before the first `mark`, and what stands after it.
@@ -34,20 +40,22 @@ pub fn cut<'a>(bytes: &'a [u8], mark: u8) -> Option<(&'a [u8], &'a [u8])>
     ensures value { parts_of result ≡ cut_at mark bytes.now }
     ensures law { CutLaw mark bytes.now (parts_of result) }
 {
-    for (i, x) in bytes.iter().enumerate() {
-        if *x == mark {
-            return Some((&bytes[0..i], &bytes[i + 1..bytes.len()]));
-        }
-    }
-    None
+    let place = place_of(bytes, mark)?;
+    Some((&bytes[..place], &bytes[place + 1..]))
+}
+
+fn place_of(bytes: &[u8], mark: u8) -> Option<usize>
+    ensures { result ≡ position (λ x. x == mark) bytes.now }
+{
+    bytes.iter().position(|byte| *byte == mark)
 }
 
 // The number before the first space, and what stands after that space.
+#[tactic(auto, unfolding(crate::specs::Cut::field_of), using(crate::proofs::Fields::field_law))]
 pub fn field<'a>(bytes: &'a [u8]) -> Option<(u16, &'a [u8])>
     ensures value { taken_of result ≡ field_of bytes.now }
     ensures law { FieldLaw bytes.now (taken_of result) }
 {
     let (word, rest) = cut(bytes, b' ')?;
-    let n = number(word)?;
-    Some((n, rest))
+    Some((number(word)?, rest))
 }

@@ -5,7 +5,6 @@ ghost use Rattle.roll.specs.Rolls.{items_of, table_of, lender_of, Given, Appende
 
 use crate::fault::RollFault;
 use crate::roll::Roll;
-use crate::roll::table::Table;
 
 impl<'a, T> Roll<'a, T> {
     // A roll over lent places, none of them used. What they hold stays.
@@ -14,10 +13,7 @@ impl<'a, T> Roll<'a, T> {
         ensures table { table_of result ≡ places.old }
         ensures lender { lender_of result ≡ places.entry.ghost_name }
     {
-        Roll {
-            table: Table { places },
-            used: 0,
-        }
+        Roll { places, used: 0 }
     }
 
     // How many places are used.
@@ -31,14 +27,14 @@ impl<'a, T> Roll<'a, T> {
     pub fn places(&self) -> usize
         ensures { result ≡ length (table_of self.now) }
     {
-        self.table.len()
+        self.places.len()
     }
 
     // The used elements, in order.
     pub fn items(&self) -> &[T]
         ensures { result.now ≡ items_of self.now }
     {
-        self.table.front(self.used)
+        &self.places[..self.used]
     }
 }
 
@@ -47,10 +43,7 @@ impl<'a, T: Copy> Roll<'a, T> {
     pub fn at(&self, place: usize) -> Result<T, RollFault>
         ensures { Given (items_of self.now) place result }
     {
-        match self.items().get(place) {
-            Some(x) => Ok(*x),
-            None => Err(RollFault::NotUsed),
-        }
+        self.items().get(place).copied().ok_or(RollFault::NotUsed)
     }
 
     // Puts an element at the first place that is not used.
@@ -58,10 +51,10 @@ impl<'a, T: Copy> Roll<'a, T> {
         ensures cases { Appended self.old x result self.new }
         ensures lender { lender_of self.new ≡ lender_of self.old }
     {
-        if self.used >= self.table.len() {
+        if self.used == self.places.len() {
             return Err(RollFault::Full);
         }
-        self.table.put(self.used, x);
+        self.places[self.used] = x;
         self.used += 1;
         Ok(())
     }
@@ -72,7 +65,10 @@ impl<'a, T: Copy> Roll<'a, T> {
         ensures table { table_of self.new ≡ replicate (length (table_of self.old)) blank }
         ensures lender { lender_of self.new ≡ lender_of self.old }
     {
-        self.table.fill(blank);
+        // `fill` asks for a clone that cannot fail, which `T: Copy` does not say.
+        for place in self.places.iter_mut() {
+            *place = blank;
+        }
         self.used = 0;
     }
 }

@@ -1,4 +1,5 @@
-use Rattle.std.proofs.Common.{Ok, Result, ap, ◌∙◌, arith, rules}
+use Rattle.std.proofs.Common.{◌<◌, Ok, Result, length, sym, refl, ap, ◌∙◌, arith, rules}
+use borrow.Author.Tests.{eqb-false, eqb-true}
 use Rattle.aiger.specs.declared.fault.ReadFault.{ReadFault}
 use Rattle.aiger.specs.Advance.{and_then, state_of}
 use Rattle.aiger.proofs.Files.{turn, stop, cut_shorter, unfinished_turn, plain_end, both_ended}
@@ -22,23 +23,25 @@ loop-line-preserved c = (
 
 pub returns-in_err-take-2 : goal.returns-in_err-take-2
 returns-in_err-take-2 c =
-    let h = unfinished_turn _ _ _ _ _ _ c.in_default.ensures.value (omega arith) c.unfinished.ensures c.in_err-take-2.ensures c.loop-line.invariant.0 in
+    let some : 0 < length c.loop-line.rest.now = let k = eqb-false (length c.loop-line.rest.now) 0 (sym c.if-not-is_empty.ensures) in omega arith in
+    let h = unfinished_turn _ _ _ _ _ _ c.in_default.ensures.value some refl c.in_err-take-2.ensures c.loop-line.invariant.0 in
     search (rules, h)
+
+pub returns-then-not-is_empty : goal.returns-then-not-is_empty
+returns-then-not-is_empty c =
+    let some : 0 < length c.loop-line.rest.now = let k = eqb-false (length c.loop-line.rest.now) 0 (sym c.if-not-is_empty.ensures) in omega arith in
+    let h = unfinished_turn _ _ _ _ _ _ c.in_default.ensures.value some refl c.in_ok-take-2.ensures c.loop-line.invariant.0 in
+    both_ended c.end.result _ _
+    ∙ ap (λ (x : Result (Unit {0}) ReadFault). and_then x λ _. Ok (state_of c.take-then-not-is_empty.new.self c.take-then-not-is_empty.new.gates)) c.end.ensures ∙ h
+
+pub returns : goal.returns
+returns c =
+    let h = plain_end _ _ _ _ c.in_default.ensures.value (eqb-true (length c.loop-line.rest.now) 0 (sym c.if-not-is_empty.ensures)) c.loop-line.invariant.0 in
+    both_ended c.end-2.result _ _
+    ∙ ap (λ (x : Result (Unit {0}) ReadFault). and_then x λ _. Ok (state_of c.loop-line.reader c.loop-line.gates)) c.end-2.ensures ∙ h
 
 pub end-requires : goal.end-requires
 end-requires c = (keep _ _ _ _ c.in_ok-take-2.ensures c.loop-line.invariant.1).bounds.inputs
 
-pub returns-then-rest-gt0 : goal.returns-then-rest-gt0
-returns-then-rest-gt0 c =
-    let h = unfinished_turn _ _ _ _ _ _ c.in_default.ensures.value (omega arith) c.unfinished.ensures c.in_ok-take-2.ensures c.loop-line.invariant.0 in
-    both_ended c.end.result _ _
-    ∙ ap (λ (x : Result (Unit {0}) ReadFault). and_then x λ _. Ok (state_of c.take-then-rest-gt0.new.self c.take-then-rest-gt0.new.gates)) c.end.ensures ∙ h
-
 pub end-requires-2 : goal.end-requires-2
 end-requires-2 c = c.loop-line.invariant.1.bounds.inputs
-
-pub returns : goal.returns
-returns c =
-    let h = plain_end _ _ _ _ c.in_default.ensures.value (omega arith) c.loop-line.invariant.0 in
-    both_ended c.end-2.result _ _
-    ∙ ap (λ (x : Result (Unit {0}) ReadFault). and_then x λ _. Ok (state_of c.loop-line.reader c.loop-line.gates)) c.end-2.ensures ∙ h

@@ -6,7 +6,7 @@ use Rattle.aiger.proofs.writer.header_of.Goals as goal
 counted : (c : goal.After-used_inputs) → length c.used_inputs.result.now ≡ c.args.model.now.record.now.input_count
 counted c =
     let m = c.args.model.now in
-    ap length c.used_inputs.ensures ∙ inputs_length m.record.now m.gates.now m.fit
+    ap length c.used_inputs.ensures.value ∙ inputs_length m.record.now m.gates.now m.fit
 
 pub overflow_cast-result : goal.overflow_cast-result
 overflow_cast-result c =
@@ -21,4 +21,4 @@ overflow_cast-result-3 c =
     let m = c.args.model.now in omega (arith, (soundness m.record.now m.gates.now m.fit).sizes.gates)
 
 pub returns : goal.returns
-returns c = simp (c.used_inputs.ensures, inputs_length c.args.model.now.record.now c.args.model.now.gates.now c.args.model.now.fit, c.maximum.ensures, c.latches.ensures, c.gates.ensures)
+returns c = simp (c.used_inputs.ensures.value, inputs_length c.args.model.now.record.now c.args.model.now.gates.now c.args.model.now.fit, c.maximum.ensures, c.latches.ensures.value, c.gates.ensures)

@@ -1,12 +1,10 @@
-use Rattle.std.proofs.Common.{◌≡◌, ◌++◌, length, vec_items}
-use Rattle.dimacs_text.specs.Words.{content, lines}
+use Rattle.std.proofs.Common.{◌≡◌, ◌++◌, vec_items}
+use Rattle.dimacs_text.specs.Words.{lines, content}
+use Rattle.dimacs_text.specs.Lines.{lines_left}
 use Rattle.dimacs_text.specs.Entries.{spellings, SomeUnspelled}
 use Rattle.dimacs_text.proofs.body.entries.Given as goal
 
-abbrev pub invariant-loop-first : goal.invariant-loop-first
-invariant-loop-first l =
-    (spellings (vec_items l.entries) ++ content (lines l.rest) ≡ content (lines l.text))
-    × (SomeUnspelled (content (lines l.rest)) → SomeUnspelled (content (lines l.text)))
-
-abbrev pub decreases-loop-first : goal.decreases-loop-first
-decreases-loop-first l = length l.rest
+abbrev pub invariant-loop-line : goal.invariant-loop-line
+invariant-loop-line l =
+    (spellings (vec_items l.entries) ++ content (lines_left l.line-iterator) ≡ content (lines l.text))
+    × (SomeUnspelled (content (lines_left l.line-iterator)) → SomeUnspelled (content (lines l.text)))

@@ -8,6 +8,6 @@ use Rattle.encoding.proofs.candidate.hold_each.Given as goal
 abbrev pub invariant-loop-literal : goal.invariant-loop-literal
 invariant-loop-literal g l =
     let s = g.S.Solver in
-    Held (s.variable_count l.initial.solver) (s.cell_count l.initial.solver) (s.clauses l.initial.solver)
+    Held (s.meaning l.initial.solver)
     (flat_map (λ x. implies l.guard x ∷ []) (take l.literal-index l.literals))
-    (s.variable_count l.solver) (s.cell_count l.solver) (s.clauses l.solver) None
+    (s.meaning l.solver) None

@@ -8,6 +8,6 @@ use Rattle.encoding.proofs.gates.hold_gates.Given as goal
 abbrev pub invariant-loop-gate : goal.invariant-loop-gate
 invariant-loop-gate g l =
     let s = g.S.Solver in
-    Held (s.variable_count l.initial.solver) (s.cell_count l.initial.solver) (s.clauses l.initial.solver)
-    (flat_map (gate_clauses l.maximum) (take l.gate-index l.gates))
-    (s.variable_count l.solver) (s.cell_count l.solver) (s.clauses l.solver) None
+    Held (s.meaning l.initial.solver)
+    (flat_map (gate_clauses l.variables.maximum) (take l.gate-index l.gates))
+    (s.meaning l.solver) None

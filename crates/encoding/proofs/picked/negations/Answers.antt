@@ -1,15 +1,13 @@
-use Rattle.std.proofs.Common.{[], ◌∷◌, ◌++◌, map, take, ap, ◌∙◌}
-use Rattle.std.proofs.lemmas.List.{at_drop_more, at_drop_all}
+use Rattle.std.proofs.Common.{rules, tests, refl, arith, map, ap, ◌∙◌}
+use Rattle.std.proofs.lemmas.List.{take_all, length-map}
+use Rattle.std.proofs.lemmas.Iterator.{YieldsList-from_slice, YieldsList-from_map}
 use Rattle.literal.specs.Truth.{negation_of}
-use Rattle.encoding.specs.Tables.{literals_in}
-use Rattle.encoding.proofs.Tables.{put_more, put_all}
+use Rattle.sat.proofs.Loops.{collected}
 use Rattle.encoding.proofs.picked.negations.Goals as goal
-
-pub loop-literal-preserved : goal.loop-literal-preserved
-loop-literal-preserved c =
-    put_more _ _ _ _ _ _ (c.push.ensures ∙ ap (λ x. take 64 (literals_in c.loop-literal.table ++ x ∷ [])) c.negation.ensures.value)
-    (at_drop_more (map negation_of) c.args.literals.now c.loop-literal.literal-index _ c.loop-literal-test.true) c.loop-literal.invariant
 
 pub returns : goal.returns
 returns c =
-    put_all c.loop-literal.table _ _ (at_drop_all (map negation_of) c.args.literals.now c.loop-literal.literal-index c.loop-literal-test.false) c.loop-literal.invariant
+    let ls = c.as_slice-literals.result.now in
+    collected _ c.of.ensures (YieldsList-from_map _ negation_of (YieldsList-from_slice ls cc) refl (λ x r q k. search (rules, tests)))
+    ∙ take_all 64 (map negation_of ls) (omega (arith, length-map ls negation_of, c.as_slice-literals.ensures.bound))
+    ∙ ap (map negation_of) c.as_slice-literals.ensures.value

@@ -1,55 +1,61 @@
-use Rattle.std.proofs.Common.{◌≡◌, ◌+◌, ◌<◌, length, get_or, set, ◌∙◌, arith}
-use Rattle.narrowing.proofs.Sifts.{sifted_none, sifted_skip, sifted_stay, sifted_drop, sifted_asks, sifted_place, sifted_as}
+use Rattle.std.proofs.Common.{◌≡◌, ◌+◌, ◌<◌, ◌++◌, length, get_or, refl, drop, sym, ap, ◌∙◌, arith}
+use Rattle.std.proofs.lemmas.List.{take-append-drop, length-take, get_or_append_left, set-append_left, set-get_or}
+use Rattle.narrowing.proofs.Sifts.{asked, asked_yes, asked_no, sifted_none, sifted_skip, sifted_stay, sifted_drop, sifted_asks, sifted_as, turned}
 use Rattle.narrowing.proofs.sift.sift.Goals as goal
-use Rattle.narrowing.proofs.sift.sift.Goals.{then-marks-i-eq1, then-i-first+then-again-place-ne1, else-i-first, else-marks-i-eq1}
+use Rattle.narrowing.proofs.sift.sift.Goals.{then-mark-eq1+then-ne+then-i-first, else-mark-eq1, else-mark-eq1-via-then-mark-eq1+then-ne+else-i-first, else-mark-eq1-via-then-mark-eq1+else-ne, else-mark-eq1-via-else-mark-eq1}
 
 pub loop-i-init : goal.loop-i-init
-loop-i-init c = sifted_none c.args.assumed.now c.args.first c.args.marks.now c.args.again.now
-
-pub bounds-again-place : goal.bounds-again-place
-bounds-again-place c =
-    omega (arith, c.requires.enough, sifted_place c.args.assumed.now c.args.first c.loop-i.i c.loop-i.place c.args.marks.now c.args.again.now c.loop-i.marks c.loop-i.invariant (omega arith) c.requires.room c.if-marks-i-eq1.true)
-
-pub overflow_add-place : goal.overflow_add-place
-overflow_add-place c =
-    let p : c.loop-i.place < length c.args.again.now =
-    omega (arith, c.requires.enough, sifted_place c.args.assumed.now c.args.first c.loop-i.i c.loop-i.place c.args.marks.now c.args.again.now c.loop-i.marks c.loop-i.invariant (omega arith) c.requires.room c.if-marks-i-eq1.true) in
-    record { fits = omega arith }
+loop-i-init c =
+    sifted_as c.args.assumed.now c.args.first 0 0 c.args.marks.now c.args.again.now _ _ _ (take-append-drop _ _) c.iter-again.ensures.rest refl
+    (sifted_none c.args.assumed.now c.args.first c.args.marks.now c.args.again.now)
 
 pub loop-i-preserved : goal.loop-i-preserved
 loop-i-preserved c =
     let ls = c.args.assumed.now in
     let f = c.args.first in
     let i = c.loop-i.i in
-    let t = c.loop-i.place in
+    let s = c.loop-i.invariant.0 in
+    let left = c.loop-i.invariant.1 in
     let e = c.args.marks.now in
     let again = c.args.again.now in
-    let ms = c.loop-i.marks in
-    let s = c.loop-i.invariant in
-    let inside : i < length ls = omega arith in
-    elim c.if-marks-i-eq1.branch [
-      | then-marks-i-eq1 w ↦
-          let m : get_or ms i 0 ≡ 1 = w.if-marks-i-eq1.true in
-          let l : t < length again = omega (arith, c.requires.enough, sifted_place ls f i t e again ms s inside c.requires.room m) in
-          elim w.if-i-first.branch [
-            | then-i-first+then-again-place-ne1 x ↦
-                sifted_as ls f (i + 1) (t + 1) c.if-marks-i-eq1.place e again (set ms i 0) c.if-marks-i-eq1.marks (w.marks-is ∙ x.marks-is) w.place-is
-                (sifted_drop ls f i t e again ms inside c.requires.room s m l x.if-i-first.true x.if-again-place-ne1.true)
-            | else-i-first x ↦
-                sifted_as ls f (i + 1) (t + 1) c.if-marks-i-eq1.place e again ms c.if-marks-i-eq1.marks (w.marks-is ∙ x.marks-is) w.place-is
-                (sifted_stay ls f i t e again ms inside c.requires.room s m l)
-          ]
-      | else-marks-i-eq1 w ↦
-          sifted_as ls f (i + 1) t c.if-marks-i-eq1.place e again ms c.if-marks-i-eq1.marks w.marks-is w.place-is
-          (sifted_skip ls f i t e again ms inside c.requires.room s w.if-marks-i-eq1.false)
+    let n = asked ls e i in
+    let items = c.loop-i.mark-items in
+    let post = drop (length ls) e in
+    let ms = items ++ post in
+    let in-items : i < length items = omega (arith, c.loop-i.auto.mark-items, c.loop-i-test.true) in
+    let inside : i < length ls = omega (arith, c.loop-i-test.true, length-take (length ls) e) in
+    let here : get_or ms i 0 ≡ get_or items i 0 = get_or_append_left items post 0 i in-items in
+    elim c.if-mark-eq1.branch [
+      | then-mark-eq1+then-ne+then-i-first w ↦
+          let m = here ∙ w.if-mark-eq1.true in
+          let t = turned again _ _ n w.next.result _ left (λ q. ap (λ y. y.rest.now) q) w.next.ensures.steps in
+          sifted_as ls f (i + 1) (n + 1) e again _ _ _ (ap (λ y. y ++ post) w.mark-items-is ∙ sym (set-append_left items post i 0 in-items)) (ap (λ y. y.rest.now) w.again-is ∙ t.0)
+          (asked_yes ls f i e again ms inside c.requires s m) (sifted_drop ls f i e again ms inside c.requires s m w.if-i-first.true (t.1 _ refl (sym w.ne.ensures ∙ w.if-ne.true)))
+      | else-mark-eq1 w ↦ elim w.else-mark-eq1.branch [
+        | else-mark-eq1-via-then-mark-eq1+then-ne+else-i-first x ↦ (
+            let m = here ∙ x.if-mark-eq1.true in
+            let t = turned again _ _ n x.next.result _ left (λ q. ap (λ y. y.rest.now) q) x.next.ensures.steps in
+            sifted_as ls f (i + 1) (n + 1) e again ms _ _ (ap (λ y. y ++ post) (w.mark-items-is ∙ x.mark-items-is ∙ set-get_or items i 0)) (ap (λ y. y.rest.now) (w.again-is ∙ x.again-is) ∙ t.0)
+            (asked_yes ls f i e again ms inside c.requires s m) (sifted_stay ls f i e again ms inside c.requires s m))
+        | else-mark-eq1-via-then-mark-eq1+else-ne x ↦ (
+            let m = here ∙ x.if-mark-eq1.true in
+            let t = turned again _ _ n x.next.result _ left (λ q. ap (λ y. y.rest.now) q) x.next.ensures.steps in
+            sifted_as ls f (i + 1) (n + 1) e again ms _ _ (ap (λ y. y ++ post) (w.mark-items-is ∙ x.mark-items-is ∙ set-get_or items i 0)) (ap (λ y. y.rest.now) (w.again-is ∙ x.again-is) ∙ t.0)
+            (asked_yes ls f i e again ms inside c.requires s m) (sifted_stay ls f i e again ms inside c.requires s m))
+        | else-mark-eq1-via-else-mark-eq1 x ↦ (
+            let m = λ (q : get_or ms i 0 ≡ 1). x.if-mark-eq1.false (sym here ∙ q) in
+            sifted_as ls f (i + 1) n e again ms _ _ (ap (λ y. y ++ post) (w.mark-items-is ∙ x.mark-items-is ∙ set-get_or items i 0)) (ap (λ y. y.rest.now) (w.again-is ∙ x.again-is) ∙ left)
+            (asked_no ls f i e again ms inside c.requires s m) (sifted_skip ls f i e again ms inside c.requires s m))
+      ]
     ]
 
 pub returns : goal.returns
 returns c =
+    let s = c.loop-i.invariant.0 in
     record {
-      bound = c.loop-i.invariant.bound;
-      fewer = c.loop-i.invariant.fewer;
-      firsts = c.loop-i.invariant.firsts;
-      asks = sifted_asks c.args.assumed.now c.args.first c.loop-i.i c.loop-i.place c.args.marks.now c.args.again.now c.loop-i.marks c.loop-i.invariant c.requires.room (omega arith);
-      rest = c.loop-i.invariant.rest;
+      bound = s.bound;
+      fewer = s.fewer;
+      firsts = s.firsts;
+      asks = sifted_asks c.args.assumed.now c.args.first c.loop-i.i c.args.marks.now c.args.again.now _ s c.requires (omega (arith, length-take (length c.args.assumed.now) c.args.marks.now, c.loop-i.auto.i-end, c.loop-i-test.false, c.requires));
+      rest = s.rest;
     }

@@ -14,7 +14,7 @@ exception_from-requires g c = omega (arith, c.narrow.auto.marks)
 pub returns-in_err-narrow : goal.returns-in_err-narrow
 returns-in_err-narrow g c =
     let m = c.args.model.now in
-    let a = (exception_put m.«record».now m.gates.now m.fit c.args.pair.state c.args.pair.event c.args.answer c.args.rows c.due_literal.result _ _ _ _ _ c.as_slice.result.now c.requires.few c.due_literal.ensures c.none-assumed.ensures c.push_answer.ensures c.push.ensures c.push_state.ensures c.push_event.ensures c.as_slice.ensures) in
+    let a = (exception_put m.«record».now m.gates.now m.fit c.args.pair.state c.args.pair.event c.args.answer c.args.rows c.due_literal.result _ _ _ _ _ c.as_slice.result.now c.requires.few c.due_literal.ensures c.none-assumed.ensures c.push_answer.ensures c.push.ensures c.push_state.ensures c.push_event.ensures c.as_slice.ensures.value) in
     never_refused c.in_err-narrow.field-0.0 c.in_err-narrow.ensures.refused
     (exception_passes m.«record».now m.gates.now m.fit _ c.args.pair.state c.args.pair.event c.args.answer c.args.rows (c.answer_inputs-first.result + 1) (length c.args.work.now) c.as_slice.result.now a
     (ap (λ k. k + 1) c.answer_inputs-first.ensures) c.requires.variables c.requires.room)
@@ -22,19 +22,14 @@ returns-in_err-narrow g c =
 pub unreachable-requires : goal.unreachable-requires
 unreachable-requires g c =
     let m = c.args.model.now in
-    let a = (exception_put m.«record».now m.gates.now m.fit c.args.pair.state c.args.pair.event c.args.answer c.args.rows c.due_literal.result _ _ _ _ _ c.as_slice.result.now c.requires.few c.due_literal.ensures c.none-assumed.ensures c.push_answer.ensures c.push.ensures c.push_state.ensures c.push_event.ensures c.as_slice.ensures) in
+    let a = (exception_put m.«record».now m.gates.now m.fit c.args.pair.state c.args.pair.event c.args.answer c.args.rows c.due_literal.result _ _ _ _ _ c.as_slice.result.now c.requires.few c.due_literal.ensures c.none-assumed.ensures c.push_answer.ensures c.push.ensures c.push_state.ensures c.push_event.ensures c.as_slice.ensures.value) in
     let y = narrow_yes _ _ _ _ _ _ _ _ c.in_ok-narrow.field-0 c.in_ok-narrow.ensures.cases c.in-Yes.is in
     c.requires.none (byte_values c.narrow.new.values) y.clauses (sym (ap (all_true (byte_values c.narrow.new.values)) a) ∙ y.assumptions)
 
-pub returns : goal.returns
-returns g c =
+pub returns-clause-cases : goal.returns-clause-cases
+returns-clause-cases g c =
     let m = c.args.model.now in
-    let a = (exception_put m.«record».now m.gates.now m.fit c.args.pair.state c.args.pair.event c.args.answer c.args.rows c.due_literal.result _ _ _ _ _ c.as_slice.result.now c.requires.few c.due_literal.ensures c.none-assumed.ensures c.push_answer.ensures c.push.ensures c.push_state.ensures c.push_event.ensures c.as_slice.ensures) in
+    let a = (exception_put m.«record».now m.gates.now m.fit c.args.pair.state c.args.pair.event c.args.answer c.args.rows c.due_literal.result _ _ _ _ _ c.as_slice.result.now c.requires.few c.due_literal.ensures c.none-assumed.ensures c.push_answer.ensures c.push.ensures c.push_state.ensures c.push_event.ensures c.as_slice.ensures.value) in
     let n = narrow_no _ _ _ _ _ _ _ _ c.in_ok-narrow.field-0 c.in_ok-narrow.ensures.cases c.in-No.is in
-    record {
-      cases = no_candidate m.«record».now _ c.args.pair.state c.args.pair.event c.args.answer c.args.rows (c.answer_inputs-first.result + 1) c.as_slice.result.now _ _ c.exception_from.result n a
-          (ap (λ k. k + 1) c.answer_inputs-first.ensures) c.exception_from.ensures;
-      same = c.narrow.ensures.same;
-      same_variables = c.narrow.ensures.same_variables;
-      same_cells = c.narrow.ensures.same_cells;
-    }
+    no_candidate m.«record».now _ c.args.pair.state c.args.pair.event c.args.answer c.args.rows (c.answer_inputs-first.result + 1) c.as_slice.result.now _ _ c.exception_from.result n a
+    (ap (λ k. k + 1) c.answer_inputs-first.ensures) c.exception_from.ensures

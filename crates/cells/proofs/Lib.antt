@@ -1,0 +1,4 @@
+pub mod Codes
+pub mod Steps
+pub mod Stores
+pub mod Ranges

@@ -1,6 +1,0 @@
-use Rattle.counting.specs.Held.{held}
-use Rattle.counting.proofs.Tried.{Tried}
-use Rattle.counting.proofs.narrow.narrow_marks.Given as goal
-
-abbrev pub invariant-loop-i : goal.invariant-loop-i
-invariant-loop-i l = Tried (held l.solver.table) l.assumed l.first l.i l.initial.marks l.marks

@@ -1,8 +1,0 @@
-use Rattle.std.proofs.Common.{◌≡◌, ◌++◌, take, drop}
-use Rattle.encoding.specs.Literals.{cared}
-use Rattle.encoding.specs.Tables.{literals_in}
-use Rattle.encoding.proofs.table.Literals.push_cared.Given as goal
-
--- what stands there and what is left to put
-abbrev pub invariant-loop-literal : goal.invariant-loop-literal
-invariant-loop-literal l = take 64 (literals_in l.self ++ cared (drop l.literal-index l.literals) l.care l.value) ≡ take 64 (literals_in l.initial.self ++ cared l.literals l.initial.care l.initial.value)

@@ -1,9 +1,0 @@
-use Rattle.std.proofs.Common.{◌++◌, take, ap, ◌∙◌}
-use Rattle.encoding.specs.Literals.{with_signs}
-use Rattle.encoding.specs.Tables.{literals_in}
-use Rattle.encoding.proofs.table.Literals.push_event.Goals as goal
-
-pub returns : goal.returns
-returns c =
-    c.push_signed.ensures
-    ∙ ap (λ t. take 64 (literals_in c.args.self.now ++ with_signs t c.args.event)) (c.as_slice.ensures ∙ c.inputs_of-inputs.ensures.value)

@@ -1,8 +1,0 @@
-use Rattle.std.proofs.Common.{◌≡◌, ◌++◌, take, drop}
-use Rattle.encoding.specs.Literals.{with_signs}
-use Rattle.encoding.specs.Tables.{literals_in}
-use Rattle.encoding.proofs.table.Literals.push_signed.Given as goal
-
--- what stands there and what is left to put
-abbrev pub invariant-loop-literal : goal.invariant-loop-literal
-invariant-loop-literal l = take 64 (literals_in l.self ++ with_signs (drop l.literal-index l.literals) l.bits) ≡ take 64 (literals_in l.initial.self ++ with_signs l.literals l.number)
