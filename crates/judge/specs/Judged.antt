@@ -9,7 +9,7 @@ use Rattle.game.specs.Game.{Arena}
 use Rattle.game.specs.Models.{arena_of}
 use Rattle.game.specs.declared.row.Row.{Row}
 use Rattle.synthesis.specs.Runs.{Judged, Stuck, Ended, sizes_of}
-use Rattle.synthesis.specs.Sizes.{size_fault, variables_of_candidate, variables_of_answer}
+use Rattle.synthesis.specs.Sizes.{size_fault, room, variables_of_candidate, variables_of_answer}
 use Rattle.synthesis.specs.declared.fault.RunFault.{RunFault}
 use Rattle.synthesis.specs.declared.sizes.Sizes.{Sizes}
 use Rattle.synthesis.specs.declared.verdict.Verdict.{Verdict}
@@ -51,8 +51,8 @@ cells_for V = solver_numbers - splitting.search_numbers V
 
 abbrev pub sizes_for : Record → Sizes
 sizes_for r =
-    sizes_of row_places exception_places (candidate_variables r) (cells_for (candidate_variables r)) (answer_variables r) (cells_for (answer_variables r))
-    (candidate_variables r + 1)
+    sizes_of row_places exception_places (room (candidate_variables r) (cells_for (candidate_variables r)))
+    (room (answer_variables r) (cells_for (answer_variables r))) (candidate_variables r + 1)
 
 abbrev pub run_fault : Record → Option RunFault
 run_fault r = size_fault r (sizes_for r)

@@ -3,7 +3,7 @@
 ghost use Rattle.std.specs.Prelude.{◌≡◌, length};
 ghost use Rattle.game.specs.Models.{model_arena};
 ghost use Rattle.roll.specs.Rolls.{items_of, table_of};
-ghost use Rattle.synthesis.specs.Runs.{sizes_of};
+ghost use Rattle.synthesis.specs.Runs.{room_of, sizes_of};
 ghost use Rattle.synthesis.specs.Sizes.{size_fault};
 ghost use Rattle.host.specs.Served.{calls_of};
 ghost use Rattle.host.specs.Whole.{Serving};
@@ -42,7 +42,7 @@ fn serve_by_layers<C: Solver + Drop, A: Solver + Drop>(
     work: &mut [u8],
     exchanges: &mut [Exchange],
 ) -> Result<(Verdict, usize), RunFault>
-    ensures ended { EndedBy (size_fault model.now.«record».now (sizes_of (length (table_of rows.old)) (length (table_of exceptions.old)) (C.Solver.variable_count candidate) (C.Solver.cell_count candidate) (A.Solver.variable_count answer) (A.Solver.cell_count answer) (length work.old))) (model_arena model.now) (length (table_of rows.old)) (length (table_of exceptions.old)) (items_of rows.new) result }
+    ensures ended { EndedBy (size_fault model.now.«record».now (sizes_of (length (table_of rows.old)) (length (table_of exceptions.old)) (room_of (C.Solver.meaning candidate)) (room_of (A.Solver.meaning answer)) (length work.old))) (model_arena model.now) (length (table_of rows.old)) (length (table_of exceptions.old)) (items_of rows.new) result }
     ensures served { Serving (model_arena model.now) (items_of rows.new) exchanges.old exchanges.new result }
     ensures calls { calls_of exchanges.new ≡ calls_of exchanges.old }
 {

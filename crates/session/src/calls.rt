@@ -12,38 +12,41 @@ use crate::stage::{Raised, Refusal, Settled, Waiting};
 use crate::staged::Staged;
 use region::Region;
 
+const AT_RESET: Waiting = Waiting { state: 0 };
+
 // A waiting session at reset.
 pub fn open(region: &Region<'_>) -> Waiting
     ensures value { waiting_stage result ≡ waiting 0 }
     ensures law { Law (arena_in region.now) (rows_in region.now) }
 {
-    Waiting { state: 0 }
+    AT_RESET
 }
 
 impl Waiting {
     // A plug-in raises an event.
+    #[tactic(auto, using(crate::proofs::Giving::raise_gives))]
     pub fn raise(self, region: &Region<'_>, event: u32) -> Result<Raised, Refusal<Waiting>>
         ensures { Gives (arena_in region.now) (rows_in region.now) (waiting_stage self) (raising event) (raise_reply result) (raise_stage result) }
     {
-        let waiting = checked(self, region, event < region.events())?;
-        Ok(Raised {
+        checked(self, region, event < region.events()).map(|waiting| Raised {
             state: waiting.state,
             event,
         })
     }
 
     // The host starts again from reset.
+    #[tactic(auto, using(crate::proofs::Giving::reset_gives))]
     pub fn reset(self, region: &Region<'_>) -> Result<Waiting, Refusal<Waiting>>
         ensures { Gives (arena_in region.now) (rows_in region.now) (waiting_stage self) resetting (reset_reply result) (reset_stage result) }
     {
-        checked(self, region, true)?;
-        Ok(open(region))
+        checked(self, region, true).map(|_| AT_RESET)
     }
 }
 
 impl Raised {
     // The host shows the answer that it wishes to give. It is used if its step is not bad and ends uncovered, otherwise the lowest such
     // answer replaces it.
+    #[tactic(auto, using(crate::proofs::Giving::settle_gives))]
     pub fn settle(self, region: &Region<'_>, wish: u32) -> Result<Settled, Refusal<Raised>>
         ensures { Gives (arena_in region.now) (rows_in region.now) (raised_stage self) (settling wish) (settle_reply result) (settle_stage result) }
     {

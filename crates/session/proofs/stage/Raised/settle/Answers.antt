@@ -4,10 +4,6 @@ use Rattle.region.specs.Parts.{arena_in, rows_in}
 use Rattle.session.proofs.Giving.{settle_gives}
 use Rattle.session.proofs.stage.Raised.settle.Goals as goal
 
-pub returns-in_err-raised : goal.returns-in_err-raised
-returns-in_err-raised c =
-    settle_gives (arena_in c.args.region.now) (rows_in c.args.region.now) c.args.self c.args.wish c.from_residual.result (grind (arith, nat_tests))
-
 pub returns : goal.returns
 returns c =
     settle_gives (arena_in c.args.region.now) (rows_in c.args.region.now) c.args.self c.args.wish (Ok c.judged.result) (grind (arith, nat_tests))
