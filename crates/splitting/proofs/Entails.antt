@@ -2,16 +2,19 @@
 use Rattle.std.proofs.Common.{◌≡◌, ℕ, ◌+◌, ◌-◌, ◌/◌, ◌%◌, ◌<◌, ◌≤◌, ◌≢◌, List, [], length, get_or, set, sym, ap, ◌∙◌, subst, inl, inr, arith}
 use Rattle.std.proofs.lemmas.List.{get_or-set_same, get_or-set_other, length-set}
 use Rattle.std.proofs.lemmas.Bool.{cases_eq, cases_lt}
-use Rattle.splitting.specs.Cells.{Holds, Fails, Met, clauses}
-use Rattle.splitting.specs.Trails.{Kept, True, Models, SeenTrue, OpenTrue, Follows, Denied, Clausal, Reasons, Front, MetBy, FrontBy, Fronts, Good}
+use Rattle.splitting.specs.Cells.{Holds, Fails, Met}
+use Rattle.cells.specs.Cells.{clauses}
+use Rattle.splitting.specs.Trails.{Kept, True, Models, SeenTrue, OpenTrue, Follows, Denied, Clausal, Reasons, Front, MetBy, FrontBy, Fronts, negation}
+use Rattle.splitting.specs.Searches.{GoodTrail, Writes, Spreads}
 use Rattle.splitting.specs.Blames.{Blamed}
+use Rattle.splitting.specs.declared.trail.Trail.{Trail}
 use Rattle.splitting.specs.declared.blame.Blame.TheVariants.{Place}
-use Rattle.splitting.proofs.Tables.{at_set}
+use Rattle.splitting.proofs.Tables.{at_set, listed_at}
 
 -- what the table makes false is denied by the trail
 pub denied_of : (value trail : List ℕ) (n l : ℕ) → Kept value trail n → Fails value l → Denied trail n l
 denied_of value trail n l k f =
-    let i = k.listed (l / 2) f.0 in
+    let i = listed_at value trail n (l / 2) k f.0 in
     let s = k.sound i.0 i.1.0 in
     record {
       place = i.0;
@@ -87,7 +90,7 @@ module _ (cells trail reason : List ℕ) (base n l x : ℕ) (a : n < length trai
       let ne : w.1 ≢ n = omega (arith, w.3) in
       (w.0, w.1, w.2, w.3, w.4 ∙ sym (get_or-set_other trail n w.1 l 0 ne))
 
-  front_by_write : (i p : ℕ) → i ≤ n → FrontBy cells trail i p → FrontBy cells (set trail n l) i p
+  pub front_by_write : (i p : ℕ) → i ≤ n → FrontBy cells trail i p → FrontBy cells (set trail n l) i p
   front_by_write i p h f = record { number = f.number; starts = f.starts; met = λ q w. met_by_write i (get_or (clauses cells) q []) h (f.met q w) }
 
   pub fronts_write : Fronts cells trail reason base n → (x % 2 ≡ 1 → FrontBy cells trail n (x / 2))
@@ -104,54 +107,50 @@ module _ (cells trail reason : List ℕ) (base n l x : ℕ) (a : n < length trai
             (let P : ℕ → Type 0 = λ v. FrontBy cells (set trail n l) i (v / 2) in subst P (sym e.1) f)
       ]
 
--- a literal goes onto the trail at place i, below a state of n places or at its end
-pub good_write : (cells value trail reason value' trail' reason' : List ℕ) (base i n l x : ℕ) → Good cells value trail reason base n
-    → base ≤ i → i ≤ n → i < length trail → trail' ≡ set trail i l → reason' ≡ set reason i x → Kept value' trail' (i + 1)
-    → (x % 2 ≡ 0 → 1 ≤ x → Clausal cells trail i l x)
-    → (x % 2 ≡ 1 → FrontBy cells trail i (x / 2))
-    → Good cells value' trail' reason' base (i + 1)
-good_write cells value trail reason value' trail' reason' base i n l x g v w h a b k e f =
-    let h' : i < length reason = omega (arith, g.sizes) in
-    let reasons = reasons_write cells trail reason base i l x h h' v (λ y p q. g.reasons y p (omega arith)) e in
-    let fronts = fronts_write cells trail reason base i l x h h' v (λ y p q. g.fronts y p (omega arith)) f in
-    let P : List ℕ → List ℕ → Type 0 = λ t q. Reasons cells t q base (i + 1) × Fronts cells t q base (i + 1) in
-    let both = subst (λ (t : List ℕ). P t reason') (sym a) (subst (λ (q : List ℕ). P (set trail i l) q) (sym b) (reasons, fronts)) in
-    record {
-      kept = k;
-      reasons = both.0;
-      fronts = both.1;
-      sizes = ap length b ∙ length-set reason i x ∙ g.sizes ∙ sym (length-set trail i l) ∙ ap length (sym a);
-      based = omega arith;
-    }
+pub room_of : (t t' : Trail) (n l why : ℕ) → Writes t t' n l why → n < length t.literals.now
+room_of t t' n l why w = omega (arith, t'.kept.room, w.count, ap length w.literals, length-set t.literals.now n l)
 
--- the same of what follows, up to place i
-pub follows_at : (cells trail reason trail' reason' seen : List ℕ) (base i n l x : ℕ) → base ≤ i → i ≤ n → i < length trail → length reason ≡ length trail
-    → trail' ≡ set trail i l → reason' ≡ set reason i x → Follows cells trail reason seen base n
-    → (x ≡ 0 → (m : ℕ → ℕ) → Models cells m → SeenTrue m trail seen base → OpenTrue m trail reason base i → True m l)
-    → Follows cells trail' reason' seen base (i + 1)
-follows_at cells trail reason trail' reason' seen base i n l x v w h s a b follows e =
-    let f = follows_write cells trail reason base i l x h (omega arith) v seen (λ y p q. follows y p (omega arith)) e in
-    let P : List ℕ → List ℕ → Type 0 = λ t q. Follows cells t q seen base (i + 1) in
-    subst (λ (t : List ℕ). P t reason') (sym a) (subst (λ (q : List ℕ). P (set trail i l) q) (sym b) f)
+-- a literal goes onto the trail at place n, below its end or there
+pub good_write : (cells : List ℕ) (t t' : Trail) (n l why : ℕ) → Writes t t' n l why → GoodTrail cells t → t.base ≤ n → n ≤ t.count
+    → (why % 2 ≡ 0 → 1 ≤ why → Clausal cells t.literals.now n l why)
+    → (why % 2 ≡ 1 → FrontBy cells t.literals.now n (why / 2))
+    → GoodTrail cells t'
+good_write cells t t' n l why w g lo hi e f =
+    let h = room_of t t' n l why w in
+    rw (w.literals, w.reasons, w.count, w.base) (record {
+      reasons = reasons_write cells t.literals.now t.reasons.now t.base n l why h (omega (arith, t.sizes)) lo (λ y p q. g.reasons y p (omega arith)) e;
+      fronts = fronts_write cells t.literals.now t.reasons.now t.base n l why h (omega (arith, t.sizes)) lo (λ y p q. g.fronts y p (omega arith)) f;
+    })
+
+-- the same of what follows
+pub follows_at : (cells seen : List ℕ) (t t' : Trail) (n l why : ℕ) → Writes t t' n l why → t.base ≤ n → n ≤ t.count
+    → Follows cells t.literals.now t.reasons.now seen t.base t.count
+    → (why ≡ 0 → (m : ℕ → ℕ) → Models cells m → SeenTrue m t.literals.now seen t.base → OpenTrue m t.literals.now t.reasons.now t.base n → True m l)
+    → Follows cells t'.literals.now t'.reasons.now seen t'.base t'.count
+follows_at cells seen t t' n l why w lo hi follows e =
+    rw (w.literals, w.reasons, w.count, w.base)
+    (follows_write cells t.literals.now t.reasons.now t.base n l why (room_of t t' n l why w) (omega (arith, t.sizes, room_of t t' n l why w)) lo seen (λ y p q. follows y p (omega arith)) e)
 
 -- forced places alone are new
-pub follows_same : (cells trail reason trail' reason' seen : List ℕ) (base n n' : ℕ) → base ≤ n
-    → ((j : ℕ) → j < n → get_or trail' j 0 ≡ get_or trail j 0) → ((j : ℕ) → j < n → get_or reason' j 0 ≡ get_or reason j 0) → ((j : ℕ) → n ≤ j → j < n' → 1 ≤ get_or reason' j 0)
-    → Follows cells trail reason seen base n → Follows cells trail' reason' seen base n'
-follows_same cells trail reason trail' reason' seen base n n' v t r new follows i w h z m d st op =
+pub follows_same : (cells seen : List ℕ) (t t' : Trail) → Spreads t t'
+    → Follows cells t.literals.now t.reasons.now seen t.base t.count → Follows cells t'.literals.now t'.reasons.now seen t'.base t'.count
+follows_same cells seen t t' s follows i w h z m d st op =
     let P : ℕ → Type 0 = λ y. True m y in
-    elim (cases_lt i n) [
-      | inl q ↦ subst P (sym (t i q)) (follows i w q (sym (r i q) ∙ z) m d
-          (λ j p s. subst P (t j (omega arith)) (st j p (omega (arith, s, ap (λ y. get_or seen (y / 2) 0) (t j (omega arith))))))
-          (λ j lo hi odd. subst P (t j (omega arith)) (op j lo hi (ap (λ y. y % 2) (r j (omega arith)) ∙ odd))))
-      | inr q ↦ absurd (omega (arith, new i q h))
+    let same = s.same_literals in
+    elim (cases_lt i t.count) [
+      | inl q ↦ subst P (sym (same i q)) (follows i (omega (arith, s.base)) q (sym (s.same_reasons i q) ∙ z) m d
+          (λ j p x. subst P (same j (omega (arith, t.based))) (st j (omega (arith, s.base)) (omega (arith, x, ap (λ y. get_or seen (y / 2) 0) (same j (omega (arith, t.based)))))))
+          (λ j lo hi odd. subst P (same j (omega arith)) (op j (omega (arith, s.base)) hi (ap (λ y. y % 2) (s.same_reasons j (omega arith)) ∙ odd))))
+      | inr q ↦ absurd (omega (arith, s.forced i q h))
     ]
 
 -- a conflict that comes from an open decision turns that round
-pub turned : (cells trail reason seen : List ℕ) (base i l : ℕ) → Blamed (Place i) cells trail reason seen base base
-    → l / 2 ≡ get_or trail i 0 / 2 → l % 2 ≡ 1 - get_or trail i 0 % 2
-    → (m : ℕ → ℕ) → Models cells m → SeenTrue m trail seen base → OpenTrue m trail reason base i → True m l
-turned cells trail reason seen base i l blamed v s m d st op =
+pub turned : (cells trail reason seen : List ℕ) (base i : ℕ) → Blamed (Place i) cells trail reason seen base base
+    → (m : ℕ → ℕ) → Models cells m → SeenTrue m trail seen base → OpenTrue m trail reason base i → True m (negation (get_or trail i 0))
+turned cells trail reason seen base i blamed m d st op =
+    let l = negation (get_or trail i 0) in
+    let v : l / 2 ≡ get_or trail i 0 / 2 = omega arith in
+    let s : l % 2 ≡ 1 - get_or trail i 0 % 2 = omega arith in
     elim (cases_eq (m (get_or trail i 0 / 2)) (1 + get_or trail i 0 % 2)) [
       | inl t ↦ absurd (blamed m d st (λ j lo hi odd. elim (cases_eq j i) [
         | inl e ↦ (let P : ℕ → Type 0 = λ y. True m (get_or trail y 0) in subst P (sym e) t)
@@ -164,7 +163,7 @@ turned cells trail reason seen base i l blamed v s m d st op =
 met_by : (value trail : List ℕ) (n : ℕ) (c : List ℕ) → Kept value trail n → Met value c → MetBy trail n c
 met_by value trail n c k w =
     let l = get_or c w.0 0 in
-    let i = k.listed (l / 2) (omega (arith, w.1.1)) in
+    let i = listed_at value trail n (l / 2) k (omega (arith, w.1.1)) in
     let s = k.sound i.0 i.1.0 in
     let e : get_or value (get_or trail i.0 0 / 2) 0 ≡ get_or value (l / 2) 0 = ap (λ v. get_or value v 0) i.1.1 in
     (w.0, i.0, w.1.0, i.1.0, omega (arith, s, e, w.1.1, i.1.1))
@@ -181,3 +180,13 @@ met_since value trail n i c k h w =
 pub front_since : (cells value trail : List ℕ) (n i p : ℕ) → Kept value trail n → i ≤ n → FrontBy cells trail i p → Front cells value p
 front_since cells value trail n i p k h f =
     record { number = f.number; starts = f.starts; met = λ q w. met_since value trail n i (get_or (clauses cells) q []) k h (f.met q w) }
+
+-- the front of an open decision, which is turned round
+pub front_turned : (cells : List ℕ) (t t' : Trail) (i l : ℕ) → Writes t t' i l 0 → GoodTrail cells t → t.base ≤ i → i < t.count
+    → get_or t.reasons.now i 0 % 2 ≡ 1 → Front cells t'.value.now (get_or t.reasons.now i 0 / 2)
+front_turned cells t t' i l w g lo hi odd =
+    let p = get_or t.reasons.now i 0 / 2 in
+    let h = room_of t t' i l 0 w in
+    let by : FrontBy cells t'.literals.now i p
+    = rw w.literals (front_by_write cells t.literals.now t.reasons.now t.base i l 0 h (omega (arith, t.sizes)) lo i p (omega arith) (g.fronts i lo hi odd)) in
+    front_since cells t'.value.now t'.literals.now t'.count i p t'.kept (omega (arith, w.count)) by

@@ -1,10 +1,11 @@
 -- Assumptions on the trail, one more of them.
-use Rattle.std.proofs.Common.{◌≡◌, ℕ, ◌+◌, ◌-◌, ◌/◌, ◌%◌, ◌<◌, ◌≤◌, List, length, get_or, set, sym, ap, ◌∙◌, subst, inl, inr, arith, below_more}
+use Rattle.std.proofs.Common.{◌≡◌, ℕ, ◌+◌, ◌/◌, ◌%◌, ◌<◌, ◌≤◌, List, length, get_or, set, sym, ap, ◌∙◌, subst, inl, inr, arith, below_more}
 use Rattle.std.proofs.lemmas.List.{get_or-set_same, get_or-set_other, get_or-map, length-map}
 use Rattle.literal.specs.declared.Literal.{Literal}
-use Rattle.splitting.specs.Cells.{Holds, codes, literal, InTable, Within}
+use Rattle.splitting.specs.Cells.{Holds, Fails, InTable}
+use Rattle.cells.specs.Cells.{codes, literal}
 use Rattle.splitting.specs.Trails.{Kept, Assumed, Contrary, Good, Models, True, Seen, SeenTrue, Follows, Refutes}
-use Rattle.splitting.proofs.Tables.{at_set}
+use Rattle.splitting.proofs.Tables.{at_set, listed_at}
 
 pub code_is : (ls : List Literal) (i r : ℕ) → i < length ls → r ≡ (get_or ls i (literal 0)).code → get_or (codes ls) i 0 ≡ r
 code_is ls i r h e = get_or-map (λ (l : Literal). l.code) ls i (literal 0) 0 h ∙ sym e
@@ -14,6 +15,10 @@ code_at ls i h = get_or-map (λ (l : Literal). l.code) ls i (literal 0) 0 h
 
 pub length_codes : (ls : List Literal) → length (codes ls) ≡ length ls
 length_codes ls = length-map ls (λ (l : Literal). l.code)
+
+-- its variable is in the table
+pub code_in : (ls : List Literal) (i r size : ℕ) → i < length ls → r ≡ (get_or ls i (literal 0)).code → InTable (codes ls) size → r / 2 < size
+code_in ls i r size h e w = omega (arith, w i (omega (arith, length_codes ls)), ap (λ x. x / 2) (code_is ls i r h e))
 
 pub assumed_none : (assumed trail : List ℕ) → Assumed assumed trail 0 0
 assumed_none assumed trail = record { each = λ k h. absurd (omega arith); only = λ t h. absurd (omega arith) }
@@ -37,7 +42,7 @@ assumed_push assumed trail trail' n i l e h s a =
 -- the place of a literal that has a value
 placed : (value trail : List ℕ) (n l : ℕ) → Kept value trail n → 1 ≤ get_or value (l / 2) 0 → (t : ℕ) × ((t < n) × ((get_or trail t 0 / 2 ≡ l / 2) × (get_or value (l / 2) 0 ≡ 1 + get_or trail t 0 % 2)))
 placed value trail n l k h =
-    let w = k.listed (l / 2) h in
+    let w = listed_at value trail n (l / 2) k h in
     (w.0, (w.1.0, (w.1.1, ap (λ v. get_or value v 0) (sym w.1.1) ∙ k.sound w.0 w.1.0)))
 
 -- it is on the trail already
@@ -52,10 +57,10 @@ assumed_again assumed value trail n i l k h s a =
     }
 
 -- it is false
-pub contrary : (assumed value trail seen : List ℕ) (n i l : ℕ) → Kept value trail n → (get_or value (l / 2) 0 ≡ 0 → ⊥) → (get_or value (l / 2) 0 ≡ 1 + l % 2 → ⊥)
+pub contrary : (assumed value trail seen : List ℕ) (n i l : ℕ) → Kept value trail n → Fails value l
     → get_or assumed i 0 ≡ l → i < length assumed → l / 2 < length seen → Assumed assumed trail n i → Contrary assumed (set seen (l / 2) 1)
-contrary assumed value trail seen n i l k z f s h t a =
-    let w = placed value trail n l k (omega (arith, z)) in
+contrary assumed value trail seen n i l k f s h t a =
+    let w = placed value trail n l k f.0 in
     let u = a.only w.0 w.1.0 in
     let v : get_or assumed u.0 0 / 2 ≡ l / 2 = ap (λ x. x / 2) (sym u.1.1) ∙ w.1.1.0 in
     record {
@@ -64,15 +69,9 @@ contrary assumed value trail seen n i l k z f s h t a =
       one_below = omega (arith, u.1.0);
       other_below = h;
       variable = v ∙ ap (λ x. x / 2) (sym s);
-      differ = λ q. f (w.1.1.1 ∙ ap (λ x. 1 + x % 2) (u.1.1 ∙ q ∙ s));
+      differ = λ q. f.1 (w.1.1.1 ∙ ap (λ x. 1 + x % 2) (u.1.1 ∙ q ∙ s));
       seen_one = omega (arith, ap (λ x. get_or (set seen (l / 2) 1) x 0) v, get_or-set_same seen (l / 2) 1 0 t);
     }
-
-pub assumed_as : (assumed : List ℕ) (i : ℕ) (value value' trail trail' : List ℕ) (n n' : ℕ) → value' ≡ value → trail' ≡ trail → n' ≡ n
-    → Kept value trail n × Assumed assumed trail n i → Kept value' trail' n' × Assumed assumed trail' n' i
-assumed_as assumed i value value' trail trail' n n' p q r both =
-    let P : List ℕ → List ℕ → ℕ → Type 0 = λ v t m. Kept v t m × Assumed assumed t m i in
-    subst (λ (m : ℕ). P value' trail' m) (sym r) (subst (λ (t : List ℕ). P value' t n) (sym q) (subst (λ (v : List ℕ). P v trail n) (sym p) both))
 
 -- contrary assumptions have no model
 pub contrary_refutes : (cells seen assumed : List ℕ) → Contrary assumed seen → Refutes cells seen assumed
@@ -85,32 +84,23 @@ contrary_refutes cells seen assumed w m d given =
     w.differ (omega (arith, x, y, e, w.variable))
 
 -- the trail's first places for the assumptions
-pub refutes_trail : (cells seen assumed trail : List ℕ) (n : ℕ) → Assumed assumed trail n (length assumed)
-    → ((m : ℕ → ℕ) → Models cells m → SeenTrue m trail seen n → ⊥) → Refutes cells seen assumed
-refutes_trail cells seen assumed trail n a none m d given =
+pub refutes_trail : (cells seen trail : List ℕ) (ls : List Literal) (n : ℕ) → Assumed (codes ls) trail n (length ls)
+    → ((m : ℕ → ℕ) → Models cells m → SeenTrue m trail seen n → ⊥) → Refutes cells seen (codes ls)
+refutes_trail cells seen trail ls n a none m d given =
     none m d (λ j h s.
     let w = a.only j h in
     let P : ℕ → Type 0 = λ l. True m l in
     let S : ℕ → Type 0 = λ l. Seen seen l in
-    subst P (sym w.1.1) (given w.0 w.1.0 (subst S w.1.1 s)))
+    subst P (sym w.1.1) (given w.0 (omega (arith, w.1.0, length_codes ls)) (subst S w.1.1 s)))
 
-pub holds_assumed : (assumed trail value : List ℕ) (n : ℕ) → Assumed assumed trail n (length assumed)
-    → ((j : ℕ) → j < n → Holds value (get_or trail j 0)) → (k : ℕ) → k < length assumed → Holds value (get_or assumed k 0)
-holds_assumed assumed trail value n a h k b =
+pub holds_assumed : (trail value : List ℕ) (ls : List Literal) (n : ℕ) → Assumed (codes ls) trail n (length ls)
+    → ((j : ℕ) → j < n → Holds value (get_or trail j 0)) → (k : ℕ) → k < length ls → Holds value (get_or (codes ls) k 0)
+holds_assumed trail value ls n a h k b =
     let w = a.each k b in let P : ℕ → Type 0 = λ l. Holds value l in subst P w.1.1 (h w.0 w.1.0)
 
 -- a trail of assumptions alone
-pub good_assumed : (cells value trail reason : List ℕ) (n : ℕ) → Kept value trail n → length reason ≡ length trail → Good cells value trail reason n n
-good_assumed cells value trail reason n k s = record {
-  kept = k;
-  reasons = λ i a b. absurd (omega arith);
-  fronts = λ i a b. absurd (omega arith);
-  sizes = s;
-  based = omega arith;
-}
+pub good_assumed : (cells trail reason : List ℕ) (n : ℕ) → Good cells trail reason n n
+good_assumed cells trail reason n = record { reasons = λ i a b. absurd (omega arith); fronts = λ i a b. absurd (omega arith) }
 
 pub follows_none : (cells trail reason seen : List ℕ) (n : ℕ) → Follows cells trail reason seen n n
 follows_none cells trail reason seen n i a b = absurd (omega arith)
-
-pub within_table : (c : List ℕ) (V size : ℕ) → V ≤ size - 1 → Within c V → InTable c size
-within_table c V size h w k b = omega (arith, (w k b).0, (w k b).1)

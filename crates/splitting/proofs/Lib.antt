@@ -1,11 +1,9 @@
-pub mod Steps
 pub mod Tables
 pub mod Weights
 pub mod Walks
 pub mod Entails
 pub mod Sweeps
 pub mod Givens
-pub mod Codes
 pub mod Publics
 pub mod Refusals
-pub mod Memories
+pub mod Ranges

@@ -1,14 +1,20 @@
 -- From tables and codes to values and literals.
 use Rattle.std.proofs.Common.{◌≡◌, ℕ, zero, suc, ◌+◌, ◌/◌, ◌%◌, ◌<◌, ◌≤◌, Bool, true, false, cond, not, eqb, List, [], ◌∷◌, map, length, get_or, sym, refl, ap, ◌∙◌, inl, inr, arith}
-use Rattle.std.proofs.lemmas.List.{length-map, length-append}
+use Rattle.std.proofs.lemmas.List.{length-map}
 use Rattle.std.proofs.lemmas.Bool.{cases_eq, eq-eqb, ne_eqb, cond-true, cond-false, or_left, or_right, or_cases, and_from, and_parts, false≢true}
 use Rattle.literal.specs.declared.Literal.{Literal}
 use Rattle.literal.specs.Truth.{Values, truth}
-use Rattle.sat.specs.Clauses.{any_true, all_true, satisfies, marked, byte_values, cells_of}
+use Rattle.sat.specs.Clauses.{any_true, all_true, satisfies, marked, byte_values}
 use Rattle.sat.specs.Answers.{Solved, Refuted}
-use Rattle.splitting.specs.Cells.{Holds, clauses, literal, codes, Within, flat}
+use Rattle.splitting.specs.Cells.{Holds}
+use Rattle.cells.specs.Cells.{clauses, literal, codes}
 use Rattle.splitting.specs.Trails.{True, Models, AllMet, Refutes}
-use Rattle.splitting.specs.Held.{literals}
+use Rattle.cells.specs.Cells.{literals}
+use Rattle.sat.specs.Faults.{in_range}
+use Rattle.cells.specs.Held.{used_cells, held}
+use Rattle.cells.proofs.Ranges.{range_codes}
+use Rattle.splitting.proofs.Ranges.{range_within}
+use Rattle.splitting.specs.declared.solver.Splitting.{Splitting}
 use Rattle.splitting.specs.Written.{Valued, MarkedBy}
 
 -- truth under values, literal by literal
@@ -74,22 +80,23 @@ byte_small value before after V w (suc k) h =
       | inr z ↦ omega (arith, w.bytes (suc k) (omega arith) h ∙ cond-false _ _ _ (ne_eqb (get_or value (suc k) 0) 1 z))
     ]
 
-pub solved : (cells value before after : List ℕ) (V : ℕ) (ls : List Literal) → Valued value V before after → AllMet cells value
-    → ((j : ℕ) → j < length (clauses cells) → Within (get_or (clauses cells) j []) V) → Within (codes ls) V
-    → ((k : ℕ) → k < length ls → Holds value (get_or (codes ls) k 0)) → Solved V (map literals (clauses cells)) ls before after
-solved cells value before after V ls w met ranges inside granted = record {
-  zero = w.zero;
-  bits = byte_small value before after V w;
-  clauses = satisfies_from (byte_values after) (clauses cells) (λ j h.
-      let k = met j h in
-      let r = ranges j h k.0 k.1.0 in
-      any_from (byte_values after) (get_or (clauses cells) j []) k.0 k.1.0
-      (holds_truth value before after V (get_or (get_or (clauses cells) j []) k.0 0) w r.0 r.1 k.1.1));
-  assumptions = all_from (byte_values after) ls (λ k h.
-      let r = inside k (omega (arith, length-map ls (λ (l : Literal). l.code))) in
-      holds_truth value before after V (get_or (codes ls) k 0) w r.0 r.1 (granted k h));
-  rest = w.rest;
-}
+pub solved : (s : Splitting) (value before after : List ℕ) (ls : List Literal) → Valued value s.variables before after → AllMet (used_cells s.cells) value
+    → in_range s.variables ls ≡ true → ((k : ℕ) → k < length ls → Holds value (get_or (codes ls) k 0)) → Solved s.variables (held s.cells) ls before after
+solved s value before after ls w met inside granted =
+    let V = s.variables in
+    let cs = clauses (used_cells s.cells) in
+    record {
+      zero = w.zero;
+      bits = byte_small value before after V w;
+      clauses = satisfies_from (byte_values after) cs (λ j h.
+          let k = met j h in
+          let r = range_codes V cs s.ranged j h k.0 k.1.0 in
+          any_from (byte_values after) (get_or cs j []) k.0 k.1.0 (holds_truth value before after V (get_or (get_or cs j []) k.0 0) w r.0 r.1 k.1.1));
+      assumptions = all_from (byte_values after) ls (λ k h.
+          let r = range_within V ls inside k (omega (arith, length-map ls (λ (l : Literal). l.code))) in
+          holds_truth value before after V (get_or (codes ls) k 0) w r.0 r.1 (granted k h));
+      rest = w.rest;
+    }
 
 -- a no
 
@@ -153,8 +160,3 @@ refuted cells seen before after ls none size w = record {
       (marked_to v ls after size a k b (w.marks k b ∙ cond-false _ _ _ (ne_eqb (get_or seen (get_or (codes ls) k 0 / 2) 0) 0 (omega arith)))));
   rest = w.rest;
 }
-
--- the cells that clauses take
-pub cells_flat : (cs : List (List ℕ)) → cells_of (map literals cs) ≡ length (flat cs)
-cells_flat [] = refl
-cells_flat (c ∷ cs) = omega (arith, length-map c literal, cells_flat cs, length-append c (flat cs))

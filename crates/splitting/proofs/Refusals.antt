@@ -1,11 +1,9 @@
 -- What the absence of a refusal says.
-use Rattle.std.proofs.Common.{◌≡◌, ℕ, zero, suc, ◌<◌, ◌≤◌, Bool, true, false, cond, List, [], ◌∷◌, length, Some, None, Option, refl, arith}
+use Rattle.std.proofs.Common.{◌≡◌, ℕ, ◌<◌, ◌≤◌, Bool, true, false, cond, List, length, Some, None, Option, refl, arith}
 use Rattle.std.proofs.lemmas.Bool.{and_parts, leb-true, ltb-true}
 use Rattle.literal.specs.declared.Literal.{Literal}
-use Rattle.literal.specs.Truth.{variable_of}
 use Rattle.sat.specs.declared.fault.SolverFault.{SolverFault}
 use Rattle.sat.specs.Faults.{in_range, literals_fault, hold_fault, keep_fault, decide_fault}
-use Rattle.splitting.specs.Cells.{codes, Within}
 
 some_none : {X : Type 0} {Y : Type 0} (x : X) → Some x ≡ None → Y
 some_none x e = let z : ◌≡◌ {A = ℕ} 0 1 = cc in absurd (omega arith)
@@ -39,10 +37,3 @@ decide_accepts V ls values marks e =
     let b = passes _ _ _ a.1 in
     let d = and_parts _ _ (passes _ _ _ b.1).0 in
     (record { ranges = a.0; short = leb-true (length ls) 64 b.0 }, ltb-true V values d.0, leb-true (length ls) marks d.1)
-
-pub range_within : (V : ℕ) (ls : List Literal) → in_range V ls ≡ true → Within (codes ls) V
-range_within V [] e k h = absurd (omega arith)
-range_within V (l ∷ ls) e zero h =
-    let a = and_parts _ _ (and_parts _ _ e).0 in
-    (ltb-true 0 (variable_of l) a.0, leb-true (variable_of l) V a.1)
-range_within V (l ∷ ls) e (suc k) h = range_within V ls (and_parts _ _ e).1 k (omega arith)

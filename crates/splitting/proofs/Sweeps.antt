@@ -2,17 +2,21 @@
 use Rattle.std.proofs.Common.{◌≡◌, ℕ, suc, ◌+◌, ◌-◌, ◌*◌, ◌/◌, ◌%◌, ◌<◌, ◌≤◌, Bool, true, false, cond, eqb, ◌⊎◌, List, [], length, get_or, set, Some, None, sym, refl, ap, ◌∙◌, subst, inl, inr, mul-le-mul_right, suc-mul, arith, below_more}
 use Rattle.std.proofs.lemmas.Bool.{cases_eq, eq-eqb, ne_eqb, cond-true, cond-false}
 use Rattle.std.proofs.lemmas.List.{get_or-set_other}
-use Rattle.splitting.specs.Cells.{Holds, Unset, Fails, Met, clauses, Starts, Reads, Whole, InTable, flat}
+use Rattle.splitting.specs.Cells.{Holds, Unset, Fails, Met, Whole, InTable}
+use Rattle.cells.specs.Cells.{clauses, Starts, Reads, flat}
 use Rattle.splitting.specs.States.{Forced}
-use Rattle.splitting.specs.Trails.{Kept, Front, FrontBy, AllMet, Good, Clash}
+use Rattle.splitting.specs.Trails.{Kept, Front, FrontBy, AllMet, Clash}
 use Rattle.splitting.specs.Passes.{Free, Passing, opened, due, pass_end, Ended}
 use Rattle.splitting.specs.declared.propagate.End.{End}
 use Rattle.splitting.specs.declared.propagate.End.TheVariants.{Done, Choose}
 use Rattle.splitting.specs.declared.propagate.Pass.{Pass}
 use Rattle.splitting.specs.declared.propagate.Pass.TheVariants as pass
-use Rattle.splitting.proofs.Steps.{ended}
+use Rattle.cells.proofs.Steps.{ended}
 use Rattle.splitting.proofs.Tables.{holds_push, holds_here, at_set}
-use Rattle.splitting.proofs.Entails.{good_write, denied_of}
+use Rattle.splitting.specs.Searches.{GoodTrail, Writes, Spreads}
+use Rattle.splitting.specs.declared.trail.Trail.{Trail}
+use Rattle.splitting.proofs.Entails.{good_write, denied_of, room_of}
+use Rattle.splitting.proofs.Weights.{less_pushed}
 
 -- a clause at the front that is met
 pub front_past : (cells value : List ℕ) (front p next front' : ℕ) (c : List ℕ)
@@ -79,31 +83,6 @@ in_table cells n j k l c w e h b s =
 pub table_of : (cells : List ℕ) (n j : ℕ) (c : List ℕ) → Whole cells n → c ≡ get_or (clauses cells) j [] → j < length (clauses cells) → InTable c n
 table_of cells n j c w e h = let P : List ℕ → Type 0 = λ x. InTable x n in subst P (sym e) (w.table j h)
 
--- a forced literal goes onto the trail
-pub good_forced : (cells value trail reason value' trail' reason' : List ℕ) (base n l j p x : ℕ) (c : List ℕ) → Good cells value trail reason base n
-    → n < length trail → trail' ≡ set trail n l → reason' ≡ set reason n x → Kept value' trail' (n + 1) → x ≡ 2 * (p + 1) → p < length cells → Starts cells p j
-    → c ≡ get_or (clauses cells) j [] → j < length (clauses cells) → Forced c value (length c) l
-    → Good cells value' trail' reason' base (n + 1)
-good_forced cells value trail reason value' trail' reason' base n l j p x c g h a b k x-is inside starts e w f =
-    let q : x / 2 - 1 ≡ p = omega arith in
-    let S : ℕ → Type 0 = λ y. Starts cells y j in
-    let O : List ℕ → Type 0 = λ y. (i : ℕ) → i < length y → (get_or y i 0 ≡ l → ⊥) → Fails value (get_or y i 0) in
-    good_write cells value trail reason value' trail' reason' base n n l x g g.based (omega arith) h a b k
-    (λ z o. record {
-      number = j;
-      starts = subst S (sym q) starts;
-      inside = omega arith;
-      forces = record { below = w; others = λ i y ne. denied_of value trail n _ g.kept (subst O e f.others i y ne) };
-    })
-    (λ z. absurd (omega arith))
-
--- a clause with no literal left
-pub clash_by : (cells value trail : List ℕ) (n p j : ℕ) (c : List ℕ) → Kept value trail n → Starts cells p j → c ≡ get_or (clauses cells) j [] → j < length (clauses cells)
-    → ((k : ℕ) → k < length c → Fails value (get_or c k 0)) → Clash cells trail n p
-clash_by cells value trail n p j c k s e h f =
-    let P : List ℕ → Type 0 = λ x. (i : ℕ) → i < length x → Fails value (get_or x i 0) in
-    record { number = j; starts = s; below = h; denied = λ i b. denied_of value trail n _ k (subst P e f i b) }
-
 -- a new place with a reason
 pub new_more : (reason reason' : List ℕ) (n₀ n x : ℕ) → n < length reason → reason' ≡ set reason n x → 1 ≤ x
     → ((j : ℕ) → n₀ ≤ j → j < n → 1 ≤ get_or reason j 0) → (j : ℕ) → n₀ ≤ j → j < n + 1 → 1 ≤ get_or reason' j 0
@@ -118,6 +97,41 @@ pub same_more : (trail trail' : List ℕ) (first : List ℕ) (n₀ n l : ℕ) �
     → ((j : ℕ) → j < n₀ → get_or trail j 0 ≡ get_or first j 0) → (j : ℕ) → j < n₀ → get_or trail' j 0 ≡ get_or first j 0
 same_more trail trail' first n₀ n l h e s j b =
     ap (λ (t : List ℕ). get_or t j 0) e ∙ get_or-set_other trail n j l 0 (λ q. omega arith) ∙ s j b
+
+-- a forced literal goes onto the trail
+pub good_forced : (cells : List ℕ) (t t' : Trail) (l j p : ℕ) (c : List ℕ) → Writes t t' t.count l (2 * (p + 1)) → GoodTrail cells t
+    → p < length cells → Starts cells p j → c ≡ get_or (clauses cells) j [] → j < length (clauses cells) → Forced c t.value.now (length c) l
+    → GoodTrail cells t'
+good_forced cells t t' l j p c w g inside starts e below f =
+    let q : 2 * (p + 1) / 2 - 1 ≡ p = omega arith in
+    let S : ℕ → Type 0 = λ y. Starts cells y j in
+    let O : List ℕ → Type 0 = λ y. (i : ℕ) → i < length y → (get_or y i 0 ≡ l → ⊥) → Fails t.value.now (get_or y i 0) in
+    good_write cells t t' t.count l (2 * (p + 1)) w g t.based (omega arith)
+    (λ z o. record {
+      number = j;
+      starts = subst S (sym q) starts;
+      inside = omega arith;
+      forces = record { below = below; others = λ i y ne. denied_of t.value.now t.literals.now t.count _ t.kept (subst O e f.others i y ne) };
+    })
+    (λ z. absurd (omega arith))
+
+pub spreads_on : (t₀ t t' : Trail) (l why : ℕ) → Writes t t' t.count l why → 1 ≤ why → Spreads t₀ t → Spreads t₀ t'
+spreads_on t₀ t t' l why w some s = record {
+  size = w.size ∙ s.size;
+  base = w.base ∙ s.base;
+  longer = omega (arith, w.count, s.longer);
+  same_literals = same_more t.literals.now t'.literals.now t₀.literals.now t₀.count t.count l s.longer w.literals s.same_literals;
+  same_reasons = same_more t.reasons.now t'.reasons.now t₀.reasons.now t₀.count t.count why s.longer w.reasons s.same_reasons;
+  forced = λ j lo hi. new_more t.reasons.now t'.reasons.now t₀.count t.count why (omega (arith, t.sizes, room_of t t' t.count l why w)) w.reasons some s.forced j lo (omega (arith, w.count));
+  bound = omega (arith, s.bound, less_pushed t t' l why w);
+}
+
+-- a clause with no literal left
+pub clash_by : (cells value trail : List ℕ) (n p j : ℕ) (c : List ℕ) → Kept value trail n → Starts cells p j → c ≡ get_or (clauses cells) j [] → j < length (clauses cells)
+    → ((k : ℕ) → k < length c → Fails value (get_or c k 0)) → Clash cells trail n p
+clash_by cells value trail n p j c k s e h f =
+    let P : List ℕ → Type 0 = λ x. (i : ℕ) → i < length x → Fails value (get_or x i 0) in
+    record { number = j; starts = s; below = h; denied = λ i b. denied_of value trail n _ k (subst P e f i b) }
 
 -- the measure of a sweep: what is left of the search, then whether a pass is due, then what is left of this one
 times_less : (a b k : ℕ) → a < b → a * k + k ≤ b * k

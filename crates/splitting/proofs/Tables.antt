@@ -1,9 +1,39 @@
 -- The table of values and the trail: what one write to both keeps.
-use Rattle.std.proofs.Common.{◌≡◌, ℕ, zero, suc, ◌+◌, ◌-◌, ◌/◌, ◌%◌, ◌<◌, ◌≤◌, ◌≢◌, ◌⊎◌, List, [], ◌∷◌, length, get_or, set, sym, refl, ap, ◌∙◌, subst, inl, inr, arith}
+use Rattle.std.proofs.Common.{◌≡◌, ℕ, zero, suc, ◌+◌, ◌-◌, ◌/◌, ◌%◌, ◌<◌, ◌≤◌, ◌≢◌, true, eqb, ◌⊎◌, List, [], ◌∷◌, length, get_or, set, sym, refl, ap, ◌∙◌, subst, inl, inr, arith}
 use Rattle.std.proofs.lemmas.List.{get_or-set_same, get_or-set_other, length-set}
-use Rattle.std.proofs.lemmas.Bool.{cases_eq}
+use Rattle.std.proofs.lemmas.Bool.{cases_eq, eq-eqb, eqb-true, or_left, or_right, or_cases, false≢true}
 use Rattle.splitting.specs.Cells.{Holds, Unset}
-use Rattle.splitting.specs.Trails.{zeros, Kept}
+use Rattle.splitting.specs.Trails.{zeros, on_trail, Kept}
+
+-- the place of a variable's literal
+pub on_trail_at : (trail : List ℕ) (n v : ℕ) → on_trail trail n v ≡ true → (i : ℕ) × ((i < n) × (get_or trail i 0 / 2 ≡ v))
+on_trail_at trail zero v e = absurd (false≢true e)
+on_trail_at trail (suc n) v e = elim (or_cases (eqb (get_or trail n 0 / 2) v) (on_trail trail n v) e) [
+  | inl q ↦ (n, (omega arith, eqb-true (get_or trail n 0 / 2) v q))
+  | inr q ↦ (let w = on_trail_at trail n v q in (w.0, (omega (arith, w.1.0), w.1.1)))
+]
+
+pub on_trail_of : (trail : List ℕ) (n v i : ℕ) → i < n → get_or trail i 0 / 2 ≡ v → on_trail trail n v ≡ true
+on_trail_of trail zero v i h e = absurd (omega arith)
+on_trail_of trail (suc n) v i h e = elim (cases_eq i n) [
+  | inl q ↦ or_left _ (on_trail trail n v) (eq-eqb (get_or trail n 0 / 2) v (ap (λ x. get_or trail x 0 / 2) (sym q) ∙ e))
+  | inr q ↦ or_right _ _ (on_trail_of trail n v i (omega (arith, q)) e)
+]
+
+pub listed_at : (value trail : List ℕ) (n v : ℕ) → Kept value trail n → 1 ≤ get_or value v 0 → (i : ℕ) × ((i < n) × (get_or trail i 0 / 2 ≡ v))
+listed_at value trail n v k h = on_trail_at trail n v (k.listed v h)
+
+-- a place past the last is written
+pub kept_past : (value trail : List ℕ) (n l : ℕ) → Kept value trail n → Kept value (set trail n l) n
+kept_past value trail n l k =
+    let same : (i : ℕ) → i < n → get_or (set trail n l) i 0 ≡ get_or trail i 0 = λ i h. get_or-set_other trail n i l 0 (λ q. omega arith) in
+    record {
+      sound = λ i h. ap (λ x. get_or value (x / 2) 0) (same i h) ∙ k.sound i h ∙ ap (λ x. 1 + x % 2) (sym (same i h));
+      listed = λ v h. let w = listed_at value trail n v k h in on_trail_of (set trail n l) n v w.0 w.1.0 (ap (λ x. x / 2) (same w.0 w.1.0) ∙ w.1.1);
+      apart = λ i j a b e. k.apart i j a b (ap (λ x. x / 2) (sym (same i (omega arith))) ∙ e ∙ ap (λ x. x / 2) (same j b));
+      inside = λ i h. omega (arith, k.inside i h, ap (λ x. x / 2) (same i h));
+      room = omega (arith, k.room, length-set trail n l);
+    }
 
 pub zeros_set : (xs : List ℕ) (i x : ℕ) → i < length xs → get_or xs i 0 ≡ 0 → 1 ≤ x → zeros (set xs i x) + 1 ≡ zeros xs
 zeros_set [] i x h e p = absurd (omega arith)
@@ -44,14 +74,13 @@ module _ (value trail : List ℕ) (n l : ℕ) (k : Kept value trail n) (u : Unse
         rw e.1 (get_or-set_other value (l / 2) (get_or trail i 0 / 2) (1 + l % 2) 0 (other_var value (get_or trail i 0) l old u) ∙ old)
   ]
 
-  listed_push : (v : ℕ) → 1 ≤ get_or (set value (l / 2) (1 + l % 2)) v 0 → (i : ℕ) × ((i < n + 1) × (get_or (set trail n l) i 0 / 2 ≡ v))
+  listed_push : (v : ℕ) → 1 ≤ get_or (set value (l / 2) (1 + l % 2)) v 0 → on_trail (set trail n l) (n + 1) v ≡ true
   listed_push v h = elim (at_set value (l / 2) (1 + l % 2) v t) [
-    | inl e ↦ (n, (omega arith, ap (λ x. x / 2) (get_or-set_same trail n l 0 push_room) ∙ sym e.0))
+    | inl e ↦ on_trail_of (set trail n l) (n + 1) v n (omega arith) (ap (λ x. x / 2) (get_or-set_same trail n l 0 push_room) ∙ sym e.0)
     | inr e ↦
-        let was : 1 ≤ get_or value v 0 = omega (arith, e.1, h) in
-        let i = k.listed v was in
+        let i = listed_at value trail n v k (omega (arith, e.1, h)) in
         let ne : i.0 ≢ n = omega (arith, i.1.0) in
-        (i.0, (omega (arith, i.1.0), ap (λ x. x / 2) (get_or-set_other trail n i.0 l 0 ne) ∙ i.1.1))
+        on_trail_of (set trail n l) (n + 1) v i.0 (omega (arith, i.1.0)) (ap (λ x. x / 2) (get_or-set_other trail n i.0 l 0 ne) ∙ i.1.1)
   ]
 
   apart_push : (i j : ℕ) → i < j → j < n + 1 → get_or (set trail n l) i 0 / 2 ≡ get_or (set trail n l) j 0 / 2 → ⊥
@@ -90,9 +119,9 @@ module _ (value trail : List ℕ) (n : ℕ) (k : Kept value trail (n + 1)) where
         listed = λ v h. elim (at_set value (get_or trail n 0 / 2) 0 v ins) [
           | inl e ↦ absurd (omega (arith, e.1, h))
           | inr e ↦
-              let i = k.listed v (omega (arith, e.1, h)) in
+              let i = listed_at value trail (n + 1) v k (omega (arith, e.1, h)) in
               let ne : i.0 ≢ n = λ q. e.0 (sym i.1.1 ∙ ap (λ x. get_or trail x 0 / 2) q) in
-              (i.0, (omega (arith, i.1.0, ne), i.1.1))
+              on_trail_of trail n v i.0 (omega (arith, i.1.0, ne)) i.1.1
         ];
         apart = λ i j a b e. k.apart i j a (omega arith) e;
         inside = λ i h. omega (arith, k.inside i (omega arith), length-set value (get_or trail n 0 / 2) 0);

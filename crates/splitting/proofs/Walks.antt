@@ -1,8 +1,8 @@
 -- Down the trail from a conflict: what each place leaves of what counts.
-use Rattle.std.proofs.Common.{◌≡◌, ℕ, ◌+◌, ◌-◌, ◌/◌, ◌%◌, ◌<◌, ◌≤◌, Bool, true, false, not, eqb, List, [], length, get_or, set, sym, ap, subst, inl, inr, arith}
+use Rattle.std.proofs.Common.{◌≡◌, ℕ, ◌+◌, ◌/◌, ◌%◌, ◌<◌, ◌≤◌, Bool, true, false, not, eqb, List, [], length, get_or, set, sym, ap, subst, inl, inr, arith}
 use Rattle.std.proofs.lemmas.List.{get_or-set_other}
 use Rattle.std.proofs.lemmas.Bool.{cases_eq, cases_lt, false≢true, ne_eqb}
-use Rattle.splitting.specs.Cells.{clauses}
+use Rattle.cells.specs.Cells.{clauses}
 use Rattle.splitting.specs.Trails.{True, Models, Seen, SeenTrue, OpenTrue, Follows, Denied, Forces, Grows}
 use Rattle.splitting.specs.Blames.{Counts, Blamed, Placed, at_open, at_turned}
 use Rattle.splitting.specs.declared.blame.Blame.{Blame}
@@ -107,14 +107,6 @@ module _ (cells trail reason seen mid : List ℕ) (base p : ℕ) (apart : (j : �
   forced_step (Place t) n j even f marked old at =
       (blamed_on (Place t) (Place t) old (λ m c. c) (λ m d st c q. forced_true j f marked m d st q), (at.0, at.1, at.2, omega (arith, at.3)))
 
--- a place's values under other names
-pub step_as : (cells trail reason mid mid' : List ℕ) (base n v p : ℕ) (b b' : Blame) → mid' ≡ mid → b' ≡ b
-    → Blamed b cells trail reason (set mid v 0) base p × Placed b reason base n p
-    → Blamed b' cells trail reason (set mid' v 0) base p × Placed b' reason base n p
-step_as cells trail reason mid mid' base n v p b b' e f w =
-    let P : List ℕ → Blame → Type 0 = λ s x. Blamed x cells trail reason (set s v 0) base p × Placed x reason base n p in
-    subst (λ (x : Blame). P mid' x) (sym f) (subst (λ (s : List ℕ). P s b) (sym e) w)
-
 -- seen literals of the base stay seen
 pub grows_on : (trail seen mid : List ℕ) (base p : ℕ) → base ≤ p → ((j : ℕ) → j < p → get_or trail j 0 / 2 ≡ get_or trail p 0 / 2 → ⊥)
     → ((v : ℕ) → 1 ≤ get_or seen v 0 → 1 ≤ get_or mid v 0) → Grows trail seen (set mid (get_or trail p 0 / 2) 0) base
@@ -127,25 +119,5 @@ grows_then trail a b c base f g j h s = g j h (f j h s)
 pub follows_grown : (cells trail reason seen seen' : List ℕ) (base n : ℕ) → Grows trail seen seen' base → Follows cells trail reason seen base n → Follows cells trail reason seen' base n
 follows_grown cells trail reason seen seen' base n g f i lo h z m d st op = f i lo h z m d (λ j q s. st j q (g j q s)) op
 
-pub one_more : (x : ℕ) → 0 < x → x - 1 + 1 ≡ x
-one_more x h = omega arith
-
 pub is_seen : (x : ℕ) → 1 ≤ x → not (eqb x 0) ≡ true
 is_seen x h = ap not (ne_eqb x 0 (omega arith))
-
--- the whole of a loop's turn, where the place's values go under other names
-pub walk_again : (cells trail reason first seen mid mid' : List ℕ) (base n p : ℕ) (b b' : Blame) → base ≤ p → p < n
-    → ((j : ℕ) → j < p → get_or trail j 0 / 2 ≡ get_or trail p 0 / 2 → ⊥) → ((v : ℕ) → 1 ≤ get_or seen v 0 → 1 ≤ get_or mid v 0)
-    → mid' ≡ mid → b' ≡ b → Grows trail first seen base
-    → Blamed b cells trail reason (set mid (get_or trail p 0 / 2) 0) base p × Placed b reason base n p
-    → (p ≤ n) × (base ≤ p) × Blamed b' cells trail reason (set mid' (get_or trail p 0 / 2) 0) base p × Placed b' reason base n p
-    × Grows trail first (set mid' (get_or trail p 0 / 2) 0) base
-walk_again cells trail reason first seen mid mid' base n p b b' lo hi apart grows e f g w =
-    let x = step_as cells trail reason mid mid' base n (get_or trail p 0 / 2) p b b' e f w in
-    let G : List ℕ → Type 0 = λ s. Grows trail first (set s (get_or trail p 0 / 2) 0) base in (
-      omega arith,
-      lo,
-      x.0,
-      x.1,
-      subst G (sym e) (grows_then trail first seen (set mid (get_or trail p 0 / 2) 0) base g (grows_on trail seen mid base p lo apart grows)),
-    )

@@ -4,6 +4,9 @@ use Rattle.std.proofs.Common.{◌≡◌, ℕ, zero, suc, ◌+◌, ◌-◌, ◌*�
 use native.Mathlib.Nat.{pow-succ'}
 use Rattle.std.proofs.lemmas.List.{length-set, take_more_set, length-take-le, drop_more, take-append-drop, get_or-take, take-take, append-nil}
 use Rattle.splitting.specs.Trails.{weight, left}
+use Rattle.splitting.specs.Searches.{Writes}
+use Rattle.splitting.specs.declared.trail.Trail.{Trail}
+use Rattle.splitting.proofs.Entails.{room_of}
 
 pow3 : (r : ℕ) → 1 ≤ 3 ^ r
 pow3 zero = omega arith
@@ -45,7 +48,7 @@ close_place : (q k x : ℕ) (ds : List ℕ) → k % 2 ≡ 1 → x % 2 ≡ 0 → 
 close_place q k x ds o z =
     omega (arith, weight_pos (q - 1) ds, digit_one (k % 2) (3 ^ (q - 1)) o, digit_none (x % 2) (3 ^ (q - 1)) z)
 
-pub less_more : (reason reason' : List ℕ) (n x : ℕ) → n < length reason → reason' ≡ set reason n x → left reason' (n + 1) < left reason n
+less_more : (reason reason' : List ℕ) (n x : ℕ) → n < length reason → reason' ≡ set reason n x → left reason' (n + 1) < left reason n
 less_more reason reason' n x h e =
     let q : length reason ≡ length (take n reason) + (length reason - n) = omega (arith, length-take-le n reason (omega arith)) in
     let w : weight (length reason) (take n reason ++ x ∷ []) < weight (length reason) (take n reason ++ [])
@@ -63,7 +66,7 @@ split_at reason i n a b =
     let t : take i (take n reason) ++ drop i (take n reason) ≡ take n reason = take-append-drop i (take n reason) in
     cc
 
-pub less_closed : (reason reason' : List ℕ) (i n x : ℕ) → i < n → n ≤ length reason → get_or reason i 0 % 2 ≡ 1 → x % 2 ≡ 0
+less_closed : (reason reason' : List ℕ) (i n x : ℕ) → i < n → n ≤ length reason → get_or reason i 0 % 2 ≡ 1 → x % 2 ≡ 0
     → reason' ≡ set reason i x → left reason' (i + 1) < left reason n
 less_closed reason reason' i n x a b o s e =
     let h : i < length reason = omega arith in
@@ -77,3 +80,10 @@ less_closed reason reason' i n x a b o s e =
     let y : left (set reason i x) (i + 1) < left reason n = simp (length-set, take_more_set reason i x h) z in
     let Q : List ℕ → Type 0 = λ y. left y (i + 1) < left reason n in
     subst Q (sym e) y
+
+-- a literal more, and an open decision turned round
+pub less_pushed : (t t' : Trail) (l why : ℕ) → Writes t t' t.count l why → left t'.reasons.now t'.count < left t.reasons.now t.count
+less_pushed t t' l why w = rw w.count (less_more t.reasons.now t'.reasons.now t.count why (omega (arith, t.sizes, room_of t t' t.count l why w)) w.reasons)
+
+pub less_turned : (t t' : Trail) (i l : ℕ) → Writes t t' i l 0 → i < t.count → get_or t.reasons.now i 0 % 2 ≡ 1 → left t'.reasons.now t'.count < left t.reasons.now t.count
+less_turned t t' i l w h odd = rw w.count (less_closed t.reasons.now t'.reasons.now i t.count 0 h (omega (arith, t.kept.room, t.sizes)) odd (omega arith) w.reasons)

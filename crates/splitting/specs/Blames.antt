@@ -1,8 +1,6 @@
 -- What a conflict comes from, place by place of the trail from its end down.
-use Rattle.std.specs.Prelude.{◌≡◌, ℕ, ◌+◌, ◌-◌, ◌/◌, ◌%◌, ◌<◌, ◌≤◌, Bool, true, false, List, slice_index}
+use Rattle.std.specs.Prelude.{◌≡◌, ℕ, ◌+◌, ◌%◌, ◌<◌, ◌≤◌, Bool, true, false, List, slice_index}
 use Rattle.splitting.specs.Trails.{Models, SeenTrue, OpenTrue}
-use Rattle.splitting.specs.declared.trail.Reason.{Reason}
-use Rattle.splitting.specs.declared.trail.Reason.TheVariants.{Open, Turned, Forced}
 use Rattle.splitting.specs.declared.blame.Blame.{Blame}
 use Rattle.splitting.specs.declared.blame.Blame.TheVariants.{Marked, Every, Place}
 
@@ -36,9 +34,3 @@ at_turned Marked true = Every
 at_turned Marked false = Marked
 at_turned Every is_seen = Every
 at_turned (Place t) is_seen = Place t
-
--- why a place stands on the trail, by its number
-abbrev pub Explains : Reason → ℕ → Type 0
-Explains (Open front) why = (why % 2 ≡ 1) × (front ≡ why / 2)
-Explains Turned why = why ≡ 0
-Explains (Forced p) why = (why % 2 ≡ 0) × (1 ≤ why) × (p ≡ why / 2 - 1)

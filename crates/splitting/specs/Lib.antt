@@ -1,6 +1,8 @@
 pub mod Sizes
 pub mod Cells
 pub mod Trails
+pub mod Reasons
+pub mod Searches
 pub mod States
 pub mod Passes
 pub mod Blames

@@ -1,8 +1,8 @@
--- The state of a search: a trail of literals, each with a reason, and a table of the values that they give.
--- The places below `base` hold the assumptions. From there on an odd reason says that the place is an open decision, 0 that
--- it was one and is turned round, and any other that a clause forces its literal.
-use Rattle.std.specs.Prelude.{◌≡◌, ℕ, zero, suc, ◌+◌, ◌-◌, ◌*◌, ◌/◌, ◌%◌, ◌^◌, ◌<◌, ◌≤◌, List, [], ◌∷◌, length, get_or, take, ◌≢◌, slice_index, slice_index_or}
-use Rattle.splitting.specs.Cells.{Holds, Met, clauses, Starts}
+-- The state of a search: a trail of literals, each with the number of a reason, and a table of the values that they give.
+-- The places below `base` hold the assumptions.
+use Rattle.std.specs.Prelude.{◌≡◌, ℕ, zero, suc, ◌+◌, ◌-◌, ◌*◌, ◌/◌, ◌%◌, ◌^◌, ◌<◌, ◌≤◌, Bool, true, false, ◌||◌, ◌==◌, List, [], ◌∷◌, length, get_or, take, ◌≢◌, slice_index, slice_index_or}
+use Rattle.splitting.specs.Cells.{Holds, Met}
+use Rattle.cells.specs.Cells.{clauses, Starts}
 
 -- how many variables have no value
 abbrev pub zeros : List ℕ → ℕ
@@ -10,13 +10,22 @@ zeros [] = 0
 zeros (zero ∷ xs) = zeros xs + 1
 zeros (suc x ∷ xs) = zeros xs
 
+-- whether one of the first n literals of the trail is of variable v
+abbrev pub on_trail : List ℕ → ℕ → ℕ → Bool
+on_trail trail zero v = false
+on_trail trail (suc n) v = slice_index trail n / 2 == v || on_trail trail n v
+
 -- the table says just what the first n literals of the trail say
 pub record Kept (value trail : List ℕ) (n : ℕ) : Type 0 where
   pub sound : (i : ℕ) → i < n → Holds value (slice_index trail i)
-  pub listed : (v : ℕ) → 1 ≤ slice_index value v → (i : ℕ) × ((i < n) × (slice_index trail i / 2 ≡ v))
+  pub listed : (v : ℕ) → 1 ≤ slice_index value v → on_trail trail n v ≡ true
   pub apart : (i j : ℕ) → i < j → j < n → slice_index trail i / 2 ≢ slice_index trail j / 2
   pub inside : (i : ℕ) → i < n → slice_index trail i / 2 < length value
   pub room : n + zeros value ≤ length trail
+
+-- the literal of the same variable and the other sign
+abbrev pub negation : ℕ → ℕ
+negation l = l + 1 - 2 * (l % 2)
 
 -- what is left of the search, in base 3: the digit of a place is 2 past the trail, 1 at an open decision and 0 elsewhere
 abbrev pub weight : ℕ → List ℕ → ℕ
@@ -106,13 +115,10 @@ abbrev pub Fronts : List ℕ → List ℕ → List ℕ → ℕ → ℕ → Type 
 Fronts cells trail reason base n =
     (i : ℕ) → base ≤ i → i < n → slice_index reason i % 2 ≡ 1 → FrontBy cells trail i (slice_index reason i / 2)
 
--- the state of a search with n literals on the trail
-pub record Good (cells value trail reason : List ℕ) (base n : ℕ) : Type 0 where
-  pub kept : Kept value trail n
+-- the reasons of a search with n literals on the trail
+pub record Good (cells trail reason : List ℕ) (base n : ℕ) : Type 0 where
   pub reasons : Reasons cells trail reason base n
   pub fronts : Fronts cells trail reason base n
-  pub sizes : length reason ≡ length trail
-  pub based : base ≤ n
 
 -- the table meets every clause
 abbrev pub AllMet : List ℕ → List ℕ → Type 0

@@ -1,7 +1,7 @@
 -- What a decision writes.
 use Rattle.std.specs.Prelude.{◌≡◌, ℕ, ◌+◌, ◌/◌, ◌<◌, ◌≤◌, cond, List, length, drop, ◌==◌, slice_index, slice_index_or}
 use Rattle.literal.specs.declared.Literal.{Literal}
-use Rattle.splitting.specs.Cells.{codes}
+use Rattle.cells.specs.Cells.{codes}
 
 -- the bytes of variables 1 to V are those of a table, and byte 0 is 0
 pub record Valued (value : List ℕ) (V : ℕ) (before after : List ℕ) : Type 0 where

@@ -2,13 +2,15 @@
 // is left are assumptions, which stay seen, and open decisions, of which the last is to be turned round. An open decision
 // that the conflict does not come from is passed over.
 
-ghost use Rattle.std.specs.Prelude.{◌≡◌, ℕ, ◌+◌, ◌-◌, ◌/◌, ◌%◌, ◌<◌, ◌≤◌, [], length, ◌≢◌, slice_index, slice_index_or};
-ghost use Rattle.splitting.specs.Cells.{InTable, Whole, At, Starts, clauses};
-ghost use Rattle.splitting.specs.Trails.{Reasons, Follows, Seen, Grows, Clash};
+ghost use Rattle.std.specs.Prelude.{◌≡◌, ℕ, ◌<◌, ◌≤◌, length, slice_index};
+ghost use Rattle.splitting.specs.Cells.{InTable, Whole};
+ghost use Rattle.splitting.specs.Trails.{Follows, Seen, Grows, Clash};
+ghost use Rattle.splitting.specs.Searches.{GoodTrail};
 ghost use Rattle.splitting.specs.Blames.{Blamed, Placed, at_open, at_turned};
 
-use crate::clause::clause_at;
-use crate::trail::Reason;
+use crate::reason::Reason;
+use crate::trail::Trail;
+use cells::clause_at;
 
 // Which open decisions count, besides the variables that are seen.
 #[derive(Clone, Copy)]
@@ -58,53 +60,32 @@ fn see(clause: &[u32], seen: &mut [u32])
     }
 }
 
-// Sees each variable of the clause at `at`, where a variable is seen that it forced.
-fn see_reason(cells: &[u32], at: usize, variable: usize, seen: &mut [u32])
-    requires whole { Whole cells.now (length seen.old) }
-    requires starts { At cells.now at }
-    requires inside { at < length cells.now }
-    requires table { variable < length seen.old }
-    ensures marked { 1 ≤ slice_index seen.old variable → (j : ℕ) → Starts cells.now at j → (k : ℕ) → k < length (slice_index_or (clauses cells.now) j []) → Seen seen.new (slice_index (slice_index_or (clauses cells.now) j []) k) }
-    ensures grows { (v : ℕ) → 1 ≤ slice_index seen.old v → 1 ≤ slice_index seen.new v }
-{
-    if seen[variable] != 0 {
+impl<'a> Trail<'a> {
+    // From the clause at `at`, whose literals are all false, down the trail.
+    pub fn trace(&self, cells: &[u32], seen: &mut [u32], at: usize) -> Blame
+        requires whole { Whole cells.now (length seen.old) }
+        requires table { length seen.old ≡ length self.now.value.now }
+        requires good { GoodTrail cells.now self.now }
+        requires follows { Follows cells.now self.now.literals.now self.now.reasons.now seen.old self.now.base self.now.count }
+        requires clash { Clash cells.now self.now.literals.now self.now.count at }
+        requires inside { at < length cells.now }
+        ensures after { Blamed result cells.now self.now.literals.now self.now.reasons.now seen.new self.now.base self.now.base }
+        ensures placed { Placed result self.now.reasons.now self.now.base self.now.count self.now.base }
+        ensures grows { Grows self.now.literals.now seen.old seen.new self.now.base }
+    {
         see(clause_at(cells, at), seen);
-    }
-}
-
-// From the clause at `at`, whose literals are all false, down the trail.
-pub fn trace(
-    cells: &[u32],
-    trail: &[u32],
-    reason: &[u32],
-    seen: &mut [u32],
-    base: usize,
-    n: usize,
-    at: usize,
-) -> Blame
-    requires whole { Whole cells.now (length seen.old) }
-    requires inside { (i : ℕ) → i < n → slice_index trail.now i / 2 < length seen.old }
-    requires apart { (i j : ℕ) → i < j → j < n → slice_index trail.now i / 2 ≢ slice_index trail.now j / 2 }
-    requires reasons { Reasons cells.now trail.now reason.now base n }
-    requires follows { Follows cells.now trail.now reason.now seen.old base n }
-    requires clash { (Clash cells.now trail.now n at) × (at < length cells.now) }
-    requires sizes { (n ≤ length trail.now) × ((length reason.now ≡ length trail.now) × (base ≤ n)) }
-    ensures after { Blamed result cells.now trail.now reason.now seen.new base base }
-    ensures placed { Placed result reason.now base n base }
-    ensures grows { Grows trail.now seen.old seen.new base }
-{
-    see(clause_at(cells, at), seen);
-    let mut blame = Blame::Marked;
-    let mut i = n;
-    while i > base {
-        i -= 1;
-        let variable = (trail[i] / 2) as usize;
-        match Reason::of(reason[i]) {
-            Reason::Open(_) => blame = blame.at_open(i, seen[variable] != 0),
-            Reason::Turned => blame = blame.at_turned(seen[variable] != 0),
-            Reason::Forced(clause) => see_reason(cells, clause, variable, seen),
+        let mut blame = Blame::Marked;
+        for i in (self.base..self.count).rev() {
+            let variable = (self.literals[i] / 2) as usize;
+            let is_seen = seen[variable] != 0;
+            match Reason::from(self.reasons[i]) {
+                Reason::Open(_) => blame = blame.at_open(i, is_seen),
+                Reason::Turned => blame = blame.at_turned(is_seen),
+                Reason::Forced(clause) if is_seen => see(clause_at(cells, clause), seen),
+                Reason::Forced(_) => {}
+            }
+            seen[variable] = 0;
         }
-        seen[variable] = 0;
+        blame
     }
-    blame
 }

@@ -1,8 +1,10 @@
-// Clauses in the cells, and how one stands under a table of values.
+// How a clause stands under a table of values.
 
-ghost use Rattle.std.specs.Prelude.{◌≡◌, ℕ, ◌+◌, ◌/◌, ◌%◌, ◌<◌, ◌≤◌, [], length};
-ghost use Rattle.splitting.specs.Cells.{InTable, Holds, flat, clauses, At, Starts, Reads};
-ghost use Rattle.splitting.specs.States.{Standing, Joined};
+ghost use Rattle.std.specs.Prelude.{◌≡◌, ◌/◌, ◌<◌, length};
+ghost use Rattle.splitting.specs.Cells.{InTable};
+ghost use Rattle.splitting.specs.States.{Judged, Standing, Joined};
+
+use crate::trail::Trail;
 
 // How a clause stands.
 #[derive(Clone, Copy)]
@@ -31,31 +33,30 @@ impl State {
     }
 }
 
-pub fn clause_state(clause: &[u32], value: &[u32]) -> State
-    requires { InTable clause.now (length value.now) }
-    ensures { Standing result clause.now value.now (length clause.now) }
-{
-    let mut state = State::Conflict;
-    for literal in clause {
-        let is = value[(*literal / 2) as usize];
-        if is == 1 + *literal % 2 {
-            return State::Satisfied;
-        }
-        if is == 0 {
-            state = state.with_unset(*literal);
+impl<'a> Trail<'a> {
+    // Whether a literal is true, where its variable has a value.
+    pub fn truth(&self, literal: u32) -> Option<bool>
+        requires { literal / 2 < length self.now.value.now }
+        ensures { Judged result self.now.value.now literal }
+    {
+        match self.value[(literal / 2) as usize] {
+            0 => None,
+            is => Some(is == 1 + literal % 2),
         }
     }
-    state
-}
 
-// The clause whose cells begin at `at`.
-pub fn clause_at<'a>(cells: &'a [u32], at: usize) -> &'a [u32]
-    requires coded { flat (clauses cells.now) ≡ cells.now }
-    requires starts { At cells.now at }
-    requires inside { at < length cells.now }
-    ensures value { (j : ℕ) → Starts cells.now at j → Reads cells.now at j result.now }
-    ensures bound { at + 1 + length result.now ≤ length cells.now }
-{
-    let length = cells[at] as usize;
-    &cells[at + 1..at + 1 + length]
+    pub fn state(&self, clause: &[u32]) -> State
+        requires { InTable clause.now (length self.now.value.now) }
+        ensures { Standing result clause.now self.now.value.now (length clause.now) }
+    {
+        let mut state = State::Conflict;
+        for literal in clause {
+            match self.truth(*literal) {
+                Some(true) => return State::Satisfied,
+                Some(false) => {}
+                None => state = state.with_unset(*literal),
+            }
+        }
+        state
+    }
 }

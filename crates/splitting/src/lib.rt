@@ -8,15 +8,12 @@ mod solver;
 pub use sizes::{MAX_VARIABLES, check};
 pub use solver::Splitting;
 
-// Its memory: the numbers divided, clauses in cells.
-mod clause;
-mod memory;
-mod store;
-
 // The search, from the question down to one literal on the trail.
 mod assume;
 mod blame;
+mod clause;
 mod propagate;
+mod reason;
 mod search;
 mod solve;
 mod trail;

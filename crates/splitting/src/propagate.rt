@@ -1,12 +1,15 @@
 // Unit propagation: passes over the clauses until one changes nothing.
 
-ghost use Rattle.std.specs.Prelude.{◌≡◌, ℕ, ◌+◌, ◌/◌, ◌%◌, ◌<◌, ◌≤◌, length, if◌then◌else◌, nat_eq, slice_index};
+ghost use Rattle.std.specs.Prelude.{◌≡◌, length, if◌then◌else◌, nat_eq};
 ghost use Rattle.splitting.specs.Cells.{Whole};
-ghost use Rattle.splitting.specs.Trails.{Good, Front, left};
+ghost use Rattle.splitting.specs.Trails.{Front};
+ghost use Rattle.splitting.specs.Searches.{GoodTrail, Spreads};
 ghost use Rattle.splitting.specs.Passes.{Ended, opened, pass_end};
 
-use crate::clause::{State, clause_at, clause_state};
-use crate::trail::{LAST_PLACE, push};
+use crate::clause::State;
+use crate::reason::{LAST_PLACE, Reason};
+use crate::trail::Trail;
+use cells::clause_at;
 
 // What a pass has met so far.
 #[derive(Clone, Copy)]
@@ -57,8 +60,6 @@ pub enum End {
 
 #[derive(Clone, Copy)]
 pub struct Spread {
-    // The length of the trail.
-    pub n: usize,
     // Every clause before this place of the cells is satisfied.
     pub front: usize,
     pub end: End,
@@ -71,62 +72,51 @@ fn past(front: usize, at: usize, next: usize) -> usize
     if front == at { next } else { front }
 }
 
-// Goes over the clauses from `front` on, again and again. A clause before the first one that is not satisfied is never
-// read again before a backtrack, and a pass without a change is the last.
-pub fn propagate(
-    cells: &[u32],
-    value: &mut [u32],
-    trail: &mut [u32],
-    reason: &mut [u32],
-    base: usize,
-    n: usize,
-    front: usize,
-) -> Spread
-    requires whole { Whole cells.now (length value.old) }
-    requires good { Good cells.now value.old trail.old reason.old base n }
-    requires front { Front cells.now value.old front }
-    ensures good { Good cells.now value.new trail.new reason.new base result.n }
-    ensures front { Front cells.now value.new result.front }
-    ensures same_trail { (j : ℕ) → j < n → slice_index trail.new j ≡ slice_index trail.old j }
-    ensures same_reason { (j : ℕ) → j < n → slice_index reason.new j ≡ slice_index reason.old j }
-    ensures forced { (j : ℕ) → n ≤ j → j < result.n → 1 ≤ slice_index reason.new j }
-    ensures longer { n ≤ result.n }
-    ensures bound { left reason.new result.n ≤ left reason.old n }
-    ensures end { Ended result.end cells.now value.new trail.new result.n }
-{
-    let mut n = n;
-    let mut front = front;
-    let mut at = front;
-    let mut pass = Pass::Clean;
-    'sweep: loop {
-        if at >= cells.len() {
-            match pass.end(front >= cells.len()) {
-                Some(end) => return Spread { n, front, end },
-                None => {
-                    at = front;
-                    pass = Pass::Clean;
+impl<'a> Trail<'a> {
+    // Goes over the clauses from `front` on, again and again. A clause before the first one that is not satisfied is
+    // never read again before a backtrack, and a pass without a change is the last.
+    pub fn propagate(&mut self, cells: &[u32], front: usize) -> Spread
+        requires whole { Whole cells.now (length self.old.value.now) }
+        requires good { GoodTrail cells.now self.old }
+        requires front { Front cells.now self.old.value.now front }
+        ensures good { GoodTrail cells.now self.new }
+        ensures front { Front cells.now self.new.value.now result.front }
+        ensures spread { Spreads self.old self.new }
+        ensures end { Ended result.end cells.now self.new.value.now self.new.literals.now self.new.count }
+    {
+        let mut front = front;
+        let mut at = front;
+        let mut pass = Pass::Clean;
+        // No `for`: the place goes back to the front after a change, and each clause says how far the next is.
+        'sweep: loop {
+            if at >= cells.len() {
+                match pass.end(front >= cells.len()) {
+                    Some(end) => return Spread { front, end },
+                    None => {
+                        at = front;
+                        pass = Pass::Clean;
+                    }
                 }
+            } else {
+                let clause = clause_at(cells, at);
+                let next = at + 1 + clause.len();
+                match self.state(clause) {
+                    State::Satisfied => front = past(front, at, next),
+                    State::Open(literal) => pass = pass.with_open(literal),
+                    State::Conflict => {
+                        let end = End::Stuck(at);
+                        return Spread { front, end };
+                    }
+                    State::Forces(literal) if at <= LAST_PLACE => {
+                        self.push(literal, Reason::Forced(at));
+                        pass = Pass::Changed;
+                        front = past(front, at, next);
+                    }
+                    // No reason can hold the clause's place, so its literal is left to a decision.
+                    State::Forces(literal) => pass = pass.with_open(literal),
+                }
+                at = next;
             }
-        } else {
-            let clause = clause_at(cells, at);
-            let next = at + 1 + clause.len();
-            match clause_state(clause, value) {
-                State::Satisfied => front = past(front, at, next),
-                State::Open(literal) => pass = pass.with_open(literal),
-                State::Conflict => {
-                    let end = End::Stuck(at);
-                    return Spread { n, front, end };
-                }
-                State::Forces(literal) if at <= LAST_PLACE => {
-                    push(value, trail, reason, n, literal, 2 * (at as u32 + 1));
-                    n += 1;
-                    pass = Pass::Changed;
-                    front = past(front, at, next);
-                }
-                // No reason can hold the clause's place, so its literal is left to a decision.
-                State::Forces(literal) => pass = pass.with_open(literal),
-            }
-            at = next;
         }
     }
 }

@@ -1,68 +1,79 @@
 // The solver.
 
-ghost use Rattle.std.specs.Prelude.{◌≡◌, ℕ, ◌-◌, ◌/◌, ◌<◌, ◌≤◌, List, [], length, slice_index, slice_index_or};
-ghost use Rattle.splitting.specs.Cells.{clauses as clauses_in, flat};
-ghost use Rattle.splitting.specs.Held.{used_cells, held, cell_number};
+ghost use Rattle.std.specs.Prelude.{◌≡◌, ◌-◌, ◌≤◌, true, [], length};
+ghost use Rattle.sat.specs.Faults.{all_in_range};
+ghost use Rattle.cells.specs.Held.{held, room};
 ghost use Rattle.splitting.specs.Sizes.{variables_over, cells_over};
 
-use crate::memory::{Memory, divide};
+use crate::sizes::{Sizes, sizes_over};
+use crate::trail::Trail;
+use cells::Cells;
 use literal::Literal;
 use sat::{Answer, Solver, SolverFault, check_decide, check_hold, check_keep};
 
 // Clauses that can be asked.
 #[derive(Drop)]
 pub struct Splitting<'a> {
-    memory: Memory<'a>,
-    ghost within: { memory.used ≤ cell_number memory },
-    ghost coded: { flat (clauses_in (used_cells memory)) ≡ used_cells memory },
-    ghost least: { (j : ℕ) → j < length (clauses_in (used_cells memory)) → (k : ℕ) → k < length (slice_index_or (clauses_in (used_cells memory)) j []) → 1 ≤ slice_index (slice_index_or (clauses_in (used_cells memory)) j []) k / 2 },
-    ghost most: { (j : ℕ) → j < length (clauses_in (used_cells memory)) → (k : ℕ) → k < length (slice_index_or (clauses_in (used_cells memory)) j []) → slice_index (slice_index_or (clauses_in (used_cells memory)) j []) k / 2 ≤ memory.variables },
-    ghost counted: { memory.count ≡ length (clauses_in (used_cells memory)) },
-    ghost values: { memory.variables ≤ length memory.value.numbers.now - 1 },
-    ghost trails: { length memory.trail.numbers.now ≡ length memory.value.numbers.now },
-    ghost reasons: { length memory.reason.numbers.now ≡ length memory.value.numbers.now },
-    ghost marks: { length memory.seen.numbers.now ≡ length memory.value.numbers.now },
+    pub(crate) trail: Trail<'a>,
+    // By variable: whether what is assumed of it counts in a conflict.
+    pub(crate) seen: &'a mut [u32],
+    pub(crate) cells: Cells<'a>,
+    pub(crate) variables: usize,
+    ghost ranged: { all_in_range variables (held cells) ≡ true },
+    ghost table: { variables ≤ length trail.value.now - 1 },
+    ghost marks: { length seen.now ≡ length trail.value.now },
 }
 
 impl<'a> Splitting<'a> {
     // A solver over the numbers that holds no clause. It refuses nothing: over sizes that the check turns down it has no
     // variables and no cells.
     pub fn new(numbers: &'a mut [u32], variables: usize) -> Splitting<'a>
-        ensures clauses { held result.memory ≡ [] }
-        ensures variables { result.memory.variables ≡ variables_over (length numbers.old) variables }
-        ensures cells { cell_number result.memory ≡ cells_over (length numbers.old) variables }
+        ensures clauses { held result.cells ≡ [] }
+        ensures variables { result.variables ≡ variables_over (length numbers.old) variables }
+        ensures cells { room result.cells ≡ cells_over (length numbers.old) variables }
     {
-        let memory = divide(numbers, variables);
-        Splitting { memory }
+        let Sizes {
+            variables,
+            column,
+            cells,
+        } = sizes_over(numbers.len(), variables);
+        let (value, rest) = numbers.split_at_mut(column);
+        let (literals, rest) = rest.split_at_mut(column);
+        let (reasons, rest) = rest.split_at_mut(column);
+        let (seen, rest) = rest.split_at_mut(column);
+        let (cells, _) = rest.split_at_mut(cells);
+        Splitting {
+            trail: Trail::new(value, literals, reasons),
+            seen,
+            cells: Cells::new(cells),
+            variables,
+        }
     }
 }
 
 impl<'a> Solver for Splitting<'a> {
-    ghost clauses = { λ s. held s.memory };
+    ghost use Rattle.splitting.specs.Held.{meaning_of};
 
-    ghost variable_count = { λ s. s.memory.variables };
-
-    ghost cell_count = { λ s. cell_number s.memory };
+    ghost meaning = { meaning_of };
 
     fn variables(&self) -> usize {
-        let variables = self.memory.variables;
+        let variables = self.variables;
         variables
     }
 
     fn cells(&self) -> usize {
-        self.memory.cell_number()
+        self.cells.room()
     }
 
     fn hold(&mut self, clause: &[Literal]) -> Result<(), SolverFault> {
-        let free = self.memory.cell_number() - self.memory.used;
-        check_hold(clause, self.memory.variables, free)?;
-        self.memory.add(clause);
+        check_hold(clause, self.variables, self.cells.free())?;
+        self.cells.push(clause);
         Ok(())
     }
 
     fn keep(&mut self, kept: usize) -> Result<(), SolverFault> {
-        check_keep(self.memory.count, kept)?;
-        self.memory.cut(kept);
+        check_keep(self.cells.count(), kept)?;
+        self.cells.cut(kept);
         Ok(())
     }
 
@@ -73,12 +84,12 @@ impl<'a> Solver for Splitting<'a> {
         values: &mut [u8],
         marks: &mut [u8],
     ) -> Result<Answer, SolverFault> {
-        check_decide(assumed, self.memory.variables, values.len(), marks.len())?;
-        if self.memory.solve(assumed) {
-            self.memory.write(values);
+        check_decide(assumed, self.variables, values.len(), marks.len())?;
+        if self.solve(assumed) {
+            self.write(values);
             Ok(Answer::Yes)
         } else {
-            self.memory.mark(assumed, marks);
+            self.mark(assumed, marks);
             Ok(Answer::No)
         }
     }

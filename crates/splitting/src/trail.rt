@@ -1,84 +1,107 @@
 // The trail: which literals have been made true, in their order, and why.
 
-ghost use Rattle.std.specs.Prelude.{◌≡◌, ℕ, ◌+◌, ◌-◌, ◌/◌, ◌%◌, ◌<◌, ◌≤◌, length, slice_index, slice_set};
+ghost use Rattle.std.specs.Prelude.{◌≡◌, ℕ, ◌+◌, ◌/◌, ◌%◌, ◌<◌, ◌≤◌, length, slice_index, slice_set};
 ghost use Rattle.splitting.specs.Cells.{Unset};
-ghost use Rattle.splitting.specs.Trails.{Kept};
-ghost use Rattle.splitting.specs.Blames.{Explains};
+ghost use Rattle.splitting.specs.Trails.{Kept, negation};
+ghost use Rattle.splitting.specs.Reasons.{Small, number_of};
 
-// The largest place of the cells that a reason can hold.
-pub const LAST_PLACE: usize = 0x7fff_fffe;
+use crate::reason::Reason;
 
-// Why a literal that is no assumption stands on the trail.
-#[derive(Clone, Copy)]
-pub enum Reason {
-    // It is an open decision, and every clause before this place of the cells was satisfied then.
-    Open(usize),
-    // It was one, and is turned round.
-    Turned,
-    // The clause at this place of the cells forces it.
-    Forced(usize),
-}
-
-impl Reason {
-    pub fn of(why: u32) -> Reason
-        ensures { Explains result why }
-    {
-        if why % 2 == 1 {
-            return Reason::Open((why / 2) as usize);
-        }
-        if why == 0 {
-            return Reason::Turned;
-        }
-        Reason::Forced((why / 2 - 1) as usize)
-    }
+#[derive(Drop)]
+pub struct Trail<'a> {
+    // By variable: 0 for no value yet, 1 for true, 2 for false.
+    pub value: &'a mut [u32],
+    // The literals that are true, and why, each as the number of a `Reason`.
+    pub literals: &'a mut [u32],
+    pub reasons: &'a mut [u32],
+    // How many there are, and how many of them are assumptions, which come first.
+    pub count: usize,
+    pub base: usize,
+    ghost kept: { Kept value.now literals.now count },
+    ghost sizes: { length reasons.now ≡ length literals.now },
+    ghost based: { base ≤ count },
 }
 
 // The literal of the same variable and the other sign.
-pub fn negated(literal: u32) -> u32
-    ensures variable { result / 2 ≡ literal / 2 }
-    ensures sign { result % 2 ≡ 1 - literal % 2 }
+fn negated(literal: u32) -> u32
+    ensures { result ≡ negation literal }
 {
-    if literal % 2 == 0 {
-        literal + 1
-    } else {
-        literal - 1
+    literal ^ 1
+}
+
+impl<'a> Trail<'a> {
+    ghost use Rattle.splitting.specs.Searches.{Writes};
+
+    // No literal is true.
+    pub fn new(value: &'a mut [u32], literals: &'a mut [u32], reasons: &'a mut [u32]) -> Trail<'a>
+        requires room { length value.old ≤ length literals.old }
+        requires sizes { length reasons.old ≡ length literals.old }
+        ensures { length result.value.now ≡ length value.old }
+    {
+        value.fill(0);
+        Trail {
+            value,
+            literals,
+            reasons,
+            count: 0,
+            base: 0,
+        }
     }
-}
 
-// Makes a literal true, at place `n` of the trail.
-pub fn push(
-    value: &mut [u32],
-    trail: &mut [u32],
-    reason: &mut [u32],
-    n: usize,
-    literal: u32,
-    why: u32,
-)
-    requires kept { Kept value.old trail.old n }
-    requires unset { Unset value.old literal }
-    requires inside { literal / 2 < length value.old }
-    requires sizes { length reason.old ≡ length trail.old }
-    ensures value { value.new ≡ slice_set value.old (literal / 2) (1 + literal % 2) }
-    ensures trail { trail.new ≡ slice_set trail.old n literal }
-    ensures reason { reason.new ≡ slice_set reason.old n why }
-    ensures kept { Kept value.new trail.new (n + 1) }
-    ensures bound { n < length trail.old }
-{
-    value[(literal / 2) as usize] = 1 + literal % 2;
-    trail[n] = literal;
-    reason[n] = why;
-}
+    // Makes a literal true.
+    pub fn push(&mut self, literal: u32, reason: Reason)
+        requires unset { Unset self.old.value.now literal }
+        requires inside { literal / 2 < length self.old.value.now }
+        requires small { Small reason }
+        ensures value { self.new.value.now ≡ slice_set self.old.value.now (literal / 2) (1 + literal % 2) }
+        ensures place { Writes self.old self.new self.old.count literal (number_of reason) }
+    {
+        self.literals[self.count] = literal;
+        self.reasons[self.count] = reason.number();
+        self.value[(literal / 2) as usize] = 1 + literal % 2;
+        self.count += 1;
+    }
 
-// Gives up the places from `n` down to `place`.
-pub fn undo(value: &mut [u32], trail: &[u32], place: usize, n: usize)
-    requires kept { Kept value.old trail.now n }
-    requires below { place < n }
-    ensures kept { Kept value.new trail.now place }
-    ensures unset { Unset value.new (slice_index trail.now place) }
-{
-    let mut i = n;
-    while i > place {
-        i -= 1;
-        value[(trail[i] / 2) as usize] = 0;
+    // Gives up the places from the last down to `place`.
+    fn undo(&mut self, place: usize)
+        requires based { self.old.base ≤ place }
+        requires below { place ≤ self.old.count }
+        ensures size { length self.new.value.now ≡ length self.old.value.now }
+        ensures literals { self.new.literals.now ≡ self.old.literals.now }
+        ensures reasons { self.new.reasons.now ≡ self.old.reasons.now }
+        ensures count { self.new.count ≡ place }
+        ensures base { self.new.base ≡ self.old.base }
+        ensures unset { place < self.old.count → Unset self.new.value.now (slice_index self.old.literals.now place) }
+    {
+        for i in (place..self.count).rev() {
+            self.value[(self.literals[i] / 2) as usize] = 0;
+            self.count = i;
+        }
+    }
+
+    // Gives up every place.
+    pub fn clear(&mut self)
+        ensures size { length self.new.value.now ≡ length self.old.value.now }
+        ensures count { self.new.count ≡ 0 }
+    {
+        self.base = 0;
+        self.undo(0);
+    }
+
+    // Turns an open decision round, and says the place of the cells before which every clause was satisfied then.
+    pub fn turn(&mut self, place: usize) -> usize
+        requires based { self.old.base ≤ place }
+        requires below { place < self.old.count }
+        requires open { slice_index self.old.reasons.now place % 2 ≡ 1 }
+        ensures place { Writes self.old self.new place (negation (slice_index self.old.literals.now place)) 0 }
+        ensures front { result ≡ slice_index self.old.reasons.now place / 2 }
+    {
+        let Reason::Open(front) = Reason::from(self.reasons[place]) else {
+            unreachable!()
+        };
+        let literal = negated(self.literals[place]);
+        self.undo(place);
+        self.push(literal, Reason::Turned);
+        front
     }
 }

@@ -1,5 +1,5 @@
 use Rattle.std.proofs.Common.{◌≡◌, ℕ, ◌/◌, ◌<◌, cond, eqb, length, get_or, drop}
-use Rattle.splitting.specs.Cells.{codes}
+use Rattle.cells.specs.Cells.{codes}
 use Rattle.splitting.proofs.write.write_marks.Given as goal
 
 abbrev pub invariant-loop-k : goal.invariant-loop-k

@@ -1,34 +1,18 @@
-use Rattle.std.proofs.Common.{sym, refl, ap, ◌∙◌, arith}
-use Rattle.std.proofs.lemmas.Result.{err_from_is_err_and}
-use Rattle.sat.specs.Faults.{hold_fault}
-use Rattle.splitting.proofs.Memories.{fit_of, free_is}
-use Rattle.splitting.proofs.Refusals.{hold_accepts, range_within}
+use Rattle.std.proofs.Common.{sym, ap, ◌∙◌, arith}
+use Rattle.sat.specs.Faults.{all_in_range}
+use Rattle.cells.specs.Held.{held}
+use Rattle.cells.proofs.Ranges.{range_push}
+use Rattle.splitting.proofs.Refusals.{hold_accepts}
 use Rattle.splitting.proofs.solver.SplittingSolver.hold.Goals as goal
 
-pub returns-in_err-check_hold : goal.returns-in_err-check_hold
-returns-in_err-check_hold c =
-    let p = err_from_is_err_and c.from_residual.result c.from_residual.ensures.1 in
-    record {
-      refused = rw (p.1, p.2) (c.in_err-check_hold.ensures ∙ ap (λ n. hold_fault c.args.self.now.memory.variables n c.args.clause.now) (free_is c.args.self.now.memory c.cell_number.result (fit_of c.args.self.now) c.cell_number.ensures));
-      after = rw p.1;
-      same_variables = refl;
-      same_cells = refl;
-    }
+pub push-requires-clause-room : goal.push-requires-clause-room
+push-requires-clause-room c = let a = hold_accepts _ _ _ (sym c.in_ok-check_hold.ensures) in omega (arith, a.1, c.free.ensures)
 
-pub add-requires : goal.add-requires
-add-requires c =
+pub push-requires-clause-short : goal.push-requires-clause-short
+push-requires-clause-short c = let a = hold_accepts _ _ _ (sym c.in_ok-check_hold.ensures) in a.0.short
+
+pub invariant_of-self-clause-ranged : goal.invariant_of-self-clause-ranged
+invariant_of-self-clause-ranged c =
+    let s = c.args.self.now in
     let a = hold_accepts _ _ _ (sym c.in_ok-check_hold.ensures) in
-    record {
-      fit = fit_of c.args.self.now;
-      inside = range_within _ _ a.0.ranges;
-      room = omega (arith, a.1, c.cell_number.ensures);
-      short = a.0.short;
-    }
-
-pub returns : goal.returns
-returns c = record {
-  refused = c.in_ok-check_hold.ensures ∙ ap (λ n. hold_fault c.args.self.now.memory.variables n c.args.clause.now) (free_is c.args.self.now.memory c.cell_number.result (fit_of c.args.self.now) c.cell_number.ensures);
-  after = c.add.ensures.after;
-  same_variables = c.add.ensures.same_variables;
-  same_cells = c.add.ensures.same_cells;
-}
+    ap (all_in_range s.variables) c.push.ensures.after ∙ range_push s.variables (held s.cells) c.args.clause.now s.ranged a.0.ranges

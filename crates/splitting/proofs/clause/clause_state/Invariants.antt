@@ -1,5 +1,0 @@
-use Rattle.splitting.specs.States.{Standing}
-use Rattle.splitting.proofs.clause.clause_state.Given as goal
-
-abbrev pub invariant-loop-literal : goal.invariant-loop-literal
-invariant-loop-literal l = Standing l.state l.clause l.value l.literal-index
