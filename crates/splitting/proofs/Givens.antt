@@ -4,7 +4,7 @@ use Rattle.std.proofs.lemmas.List.{get_or-set_same, get_or-set_other, get_or-map
 use Rattle.literal.specs.declared.Literal.{Literal}
 use Rattle.splitting.specs.Cells.{Holds, Fails, InTable}
 use Rattle.cells.specs.Cells.{codes, literal}
-use Rattle.splitting.specs.Trails.{Kept, Assumed, Contrary, Good, Models, True, Seen, SeenTrue, Follows, Refutes}
+use Rattle.splitting.specs.Trails.{Kept, Assumed, Contrary, Models, True, Seen, SeenTrue, Refutes}
 use Rattle.splitting.proofs.Tables.{at_set, listed_at}
 
 pub code_is : (ls : List Literal) (i r : ℕ) → i < length ls → r ≡ (get_or ls i (literal 0)).code → get_or (codes ls) i 0 ≡ r
@@ -19,9 +19,6 @@ length_codes ls = length-map ls (λ (l : Literal). l.code)
 -- its variable is in the table
 pub code_in : (ls : List Literal) (i r size : ℕ) → i < length ls → r ≡ (get_or ls i (literal 0)).code → InTable (codes ls) size → r / 2 < size
 code_in ls i r size h e w = omega (arith, w i (omega (arith, length_codes ls)), ap (λ x. x / 2) (code_is ls i r h e))
-
-pub assumed_none : (assumed trail : List ℕ) → Assumed assumed trail 0 0
-assumed_none assumed trail = record { each = λ k h. absurd (omega arith); only = λ t h. absurd (omega arith) }
 
 -- it goes onto the trail
 pub assumed_push : (assumed trail trail' : List ℕ) (n i l : ℕ) → trail' ≡ set trail n l → n < length trail → get_or assumed i 0 ≡ l
@@ -73,16 +70,6 @@ contrary assumed value trail seen n i l k f s h t a =
       seen_one = omega (arith, ap (λ x. get_or (set seen (l / 2) 1) x 0) v, get_or-set_same seen (l / 2) 1 0 t);
     }
 
--- contrary assumptions have no model
-pub contrary_refutes : (cells seen assumed : List ℕ) → Contrary assumed seen → Refutes cells seen assumed
-contrary_refutes cells seen assumed w m d given =
-    let a = get_or assumed w.one 0 in
-    let b = get_or assumed w.other 0 in
-    let x = given w.one w.one_below w.seen_one in
-    let y = given w.other w.other_below (omega (arith, w.seen_one, ap (λ v. get_or seen v 0) w.variable)) in
-    let e : m (a / 2) ≡ m (b / 2) = ap m w.variable in
-    w.differ (omega (arith, x, y, e, w.variable))
-
 -- the trail's first places for the assumptions
 pub refutes_trail : (cells seen trail : List ℕ) (ls : List Literal) (n : ℕ) → Assumed (codes ls) trail n (length ls)
     → ((m : ℕ → ℕ) → Models cells m → SeenTrue m trail seen n → ⊥) → Refutes cells seen (codes ls)
@@ -97,10 +84,3 @@ pub holds_assumed : (trail value : List ℕ) (ls : List Literal) (n : ℕ) → A
     → ((j : ℕ) → j < n → Holds value (get_or trail j 0)) → (k : ℕ) → k < length ls → Holds value (get_or (codes ls) k 0)
 holds_assumed trail value ls n a h k b =
     let w = a.each k b in let P : ℕ → Type 0 = λ l. Holds value l in subst P w.1.1 (h w.0 w.1.0)
-
--- a trail of assumptions alone
-pub good_assumed : (cells trail reason : List ℕ) (n : ℕ) → Good cells trail reason n n
-good_assumed cells trail reason n = record { reasons = λ i a b. absurd (omega arith); fronts = λ i a b. absurd (omega arith) }
-
-pub follows_none : (cells trail reason seen : List ℕ) (n : ℕ) → Follows cells trail reason seen n n
-follows_none cells trail reason seen n i a b = absurd (omega arith)

@@ -1,7 +1,10 @@
 -- From tables and codes to values and literals.
-use Rattle.std.proofs.Common.{◌≡◌, ℕ, zero, suc, ◌+◌, ◌/◌, ◌%◌, ◌<◌, ◌≤◌, Bool, true, false, cond, not, eqb, List, [], ◌∷◌, map, length, get_or, sym, refl, ap, ◌∙◌, inl, inr, arith}
-use Rattle.std.proofs.lemmas.List.{length-map}
-use Rattle.std.proofs.lemmas.Bool.{cases_eq, eq-eqb, ne_eqb, cond-true, cond-false, or_left, or_right, or_cases, and_from, and_parts, false≢true}
+use Rattle.std.proofs.Common.{◌≡◌, ℕ, zero, suc, ◌+◌, ◌/◌, ◌%◌, ◌<◌, ◌≤◌, Bool, true, false, cond, not, eqb, List, [], ◌∷◌, map, length, get_or, sym, ap, ◌∙◌, inl, inr, arith}
+use Rattle.std.proofs.lemmas.List.{get_or_default, length-map}
+use Rattle.std.proofs.lemmas.Bool.{cases_eq, eq-eqb, ne_eqb, cond-true, cond-false, and_parts, false≢true}
+use Rattle.std.proofs.lemmas.List.Folds.{list_any_at, Any-from_list_any, list_all-map}
+use Rattle.std.proofs.lemmas.List.Sums.{AllPass-from_list_all, list_all-from_AllPass}
+use Rattle.std.proofs.lemmas.List.Elements.{All-from_get_or}
 use Rattle.literal.specs.declared.Literal.{Literal}
 use Rattle.literal.specs.Truth.{Values, truth}
 use Rattle.sat.specs.Clauses.{any_true, all_true, satisfies, marked, byte_values}
@@ -13,40 +16,31 @@ use Rattle.cells.specs.Cells.{literals}
 use Rattle.sat.specs.Faults.{in_range}
 use Rattle.cells.specs.Held.{used_cells, held}
 use Rattle.cells.proofs.Ranges.{range_codes}
+use Rattle.cells.proofs.Codes.{any_literals}
+use Rattle.splitting.proofs.Givens.{code_at}
 use Rattle.splitting.proofs.Ranges.{range_within}
 use Rattle.splitting.specs.declared.solver.Splitting.{Splitting}
 use Rattle.splitting.specs.Written.{Valued, MarkedBy}
 
 -- truth under values, literal by literal
-pub any_from : (v : Values) (c : List ℕ) (k : ℕ) → k < length c → truth v (literal (get_or c k 0)) ≡ true → any_true v (literals c) ≡ true
-any_from v [] k h e = absurd (omega arith)
-any_from v (l ∷ c) zero h e = or_left (truth v (literal l)) (any_true v (literals c)) e
-any_from v (l ∷ c) (suc k) h e = or_right (truth v (literal l)) (any_true v (literals c)) (any_from v c k (omega arith) e)
+any_from : (v : Values) (c : List ℕ) (k : ℕ) → k < length c → truth v (literal (get_or c k 0)) ≡ true → any_true v (literals c) ≡ true
+any_from v c k h e = any_literals v c ∙ list_any_at (λ n. truth v (literal n)) c k 0 h e
 
-pub any_to : (v : Values) (c : List ℕ) → any_true v (literals c) ≡ true → (k : ℕ) × ((k < length c) × (truth v (literal (get_or c k 0)) ≡ true))
-any_to v [] e = absurd (false≢true e)
-any_to v (l ∷ c) e = elim (or_cases (truth v (literal l)) (any_true v (literals c)) e) [
-  | inl t ↦ (0, (omega arith, t))
-  | inr t ↦ (let w = any_to v c t in (suc w.0, (omega (arith, w.1.0), w.1.1)))
-]
+any_to : (v : Values) (c : List ℕ) → any_true v (literals c) ≡ true → (k : ℕ) × ((k < length c) × (truth v (literal (get_or c k 0)) ≡ true))
+any_to v c e =
+    let w = Any-from_list_any (λ n. truth v (literal n)) c (sym (any_literals v c) ∙ e) in
+    (w.0, (w.2, ap (λ n. truth v (literal n)) (get_or_default c w.0 0 w.1 w.2 ∙ w.3) ∙ w.4))
 
-pub satisfies_from : (v : Values) (cs : List (List ℕ)) → ((j : ℕ) → j < length cs → any_true v (literals (get_or cs j [])) ≡ true) → satisfies v (map literals cs) ≡ true
-satisfies_from v [] h = refl
-satisfies_from v (c ∷ cs) h = and_from (any_true v (literals c)) (satisfies v (map literals cs)) (h 0 (omega arith)) (satisfies_from v cs (λ j b. h (suc j) (omega arith)))
+satisfies_from : (v : Values) (cs : List (List ℕ)) → ((j : ℕ) → j < length cs → any_true v (literals (get_or cs j [])) ≡ true) → satisfies v (map literals cs) ≡ true
+satisfies_from v cs h =
+    list_all-map (any_true v) literals cs ∙ list_all-from_AllPass (λ c. any_true v (literals c)) cs (All-from_get_or (λ c. any_true v (literals c) ≡ true) cs [] h)
 
-pub satisfies_to : (v : Values) (cs : List (List ℕ)) → satisfies v (map literals cs) ≡ true → (j : ℕ) → j < length cs → any_true v (literals (get_or cs j [])) ≡ true
-satisfies_to v [] e j h = absurd (omega arith)
-satisfies_to v (c ∷ cs) e zero h = (and_parts (any_true v (literals c)) (satisfies v (map literals cs)) e).0
-satisfies_to v (c ∷ cs) e (suc j) h = satisfies_to v cs (and_parts (any_true v (literals c)) (satisfies v (map literals cs)) e).1 j (omega arith)
+satisfies_to : (v : Values) (cs : List (List ℕ)) → satisfies v (map literals cs) ≡ true → (j : ℕ) → j < length cs → any_true v (literals (get_or cs j [])) ≡ true
+satisfies_to v cs e j h = AllPass-from_list_all (λ c. any_true v (literals c)) cs (sym (list_all-map (any_true v) literals cs) ∙ e) j [] h
 
-pub all_from : (v : Values) (ls : List Literal) → ((k : ℕ) → k < length ls → truth v (literal (get_or (codes ls) k 0)) ≡ true) → all_true v ls ≡ true
-all_from v [] h = refl
-all_from v (l ∷ ls) h = and_from (truth v l) (all_true v ls) (h 0 (omega arith)) (all_from v ls (λ k b. h (suc k) (omega arith)))
-
-pub all_to : (v : Values) (ls : List Literal) → all_true v ls ≡ true → (k : ℕ) → k < length ls → truth v (literal (get_or (codes ls) k 0)) ≡ true
-all_to v [] e k h = absurd (omega arith)
-all_to v (l ∷ ls) e zero h = (and_parts (truth v l) (all_true v ls) e).0
-all_to v (l ∷ ls) e (suc k) h = all_to v ls (and_parts (truth v l) (all_true v ls) e).1 k (omega arith)
+all_from : (v : Values) (ls : List Literal) → ((k : ℕ) → k < length ls → truth v (literal (get_or (codes ls) k 0)) ≡ true) → all_true v ls ≡ true
+all_from v ls h =
+    list_all-from_AllPass (truth v) ls (All-from_get_or (λ l. truth v l ≡ true) ls (literal 0) (λ k b. ap (λ n. truth v (literal n)) (sym (code_at ls k b)) ∙ h k b))
 
 -- a yes
 

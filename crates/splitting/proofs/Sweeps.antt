@@ -1,12 +1,12 @@
 -- One turn of a pass over the clauses.
-use Rattle.std.proofs.Common.{◌≡◌, ℕ, suc, ◌+◌, ◌-◌, ◌*◌, ◌/◌, ◌%◌, ◌<◌, ◌≤◌, Bool, true, false, cond, eqb, ◌⊎◌, List, [], length, get_or, set, Some, None, sym, refl, ap, ◌∙◌, subst, inl, inr, mul-le-mul_right, suc-mul, arith, below_more}
+use Rattle.std.proofs.Common.{◌≡◌, ℕ, suc, ◌+◌, ◌-◌, ◌*◌, ◌/◌, ◌%◌, ◌<◌, ◌≤◌, Bool, true, false, cond, eqb, ◌⊎◌, List, [], length, get_or, set, Some, sym, refl, ap, ◌∙◌, subst, inl, inr, mul-le-mul_right, suc-mul, arith, below_more}
 use Rattle.std.proofs.lemmas.Bool.{cases_eq, eq-eqb, ne_eqb, cond-true, cond-false}
 use Rattle.std.proofs.lemmas.List.{get_or-set_other}
 use Rattle.splitting.specs.Cells.{Holds, Unset, Fails, Met, Whole, InTable}
 use Rattle.cells.specs.Cells.{clauses, Starts, Reads, flat}
 use Rattle.splitting.specs.States.{Forced}
 use Rattle.splitting.specs.Trails.{Kept, Front, FrontBy, AllMet, Clash}
-use Rattle.splitting.specs.Passes.{Free, Passing, opened, due, pass_end, Ended}
+use Rattle.splitting.specs.Passes.{Passing, opened, due, pass_end, Ended}
 use Rattle.splitting.specs.declared.propagate.End.{End}
 use Rattle.splitting.specs.declared.propagate.End.TheVariants.{Done, Choose}
 use Rattle.splitting.specs.declared.propagate.Pass.{Pass}
@@ -47,11 +47,6 @@ passing_past pass.Clean value front p next front' e w = e ∙ cond-true _ _ _ (e
 passing_past (pass.Open l) value front p next front' e w = w
 passing_past pass.Changed value front p next front' e w = tt
 
-pub passing_open : (s : Pass) (value : List ℕ) (front p next l : ℕ) → Free value l → Passing s value front p → Passing (opened s l) value front next
-passing_open pass.Clean value front p next l u w = u
-passing_open (pass.Open f) value front p next l u w = w
-passing_open pass.Changed value front p next l u w = tt
-
 pub due_open : (s : Pass) (l : ℕ) → due (opened s l) ≡ due s
 due_open pass.Clean l = refl
 due_open (pass.Open f) l = refl
@@ -79,9 +74,6 @@ pub in_table : (cells : List ℕ) (n j k l : ℕ) (c : List ℕ) → Whole cells
 in_table cells n j k l c w e h b s =
     let P : List ℕ → Type 0 = λ x. InTable x n in
     omega (arith, ap (λ x. x / 2) s, subst P (sym e) (w.table j h) k b)
-
-pub table_of : (cells : List ℕ) (n j : ℕ) (c : List ℕ) → Whole cells n → c ≡ get_or (clauses cells) j [] → j < length (clauses cells) → InTable c n
-table_of cells n j c w e h = let P : List ℕ → Type 0 = λ x. InTable x n in subst P (sym e) (w.table j h)
 
 -- a new place with a reason
 pub new_more : (reason reason' : List ℕ) (n₀ n x : ℕ) → n < length reason → reason' ≡ set reason n x → 1 ≤ x
@@ -170,13 +162,3 @@ pass_ended cells value trail n front p pass.Changed true e q h w f x =
     let r : e ≡ Done = cc in
     subst P (sym r) (met_end cells value front (w refl) f)
 pass_ended cells value trail n front p pass.Changed false e q h w f x = let z : ◌≡◌ {A = ℕ} 0 1 = cc in absurd (omega arith)
-
-pub pass_due : (s : Pass) (whole : Bool) → None ≡ pass_end s whole → (due s ≡ 1) × (whole ≡ false)
-pass_due pass.Clean whole e = let z : ◌≡◌ {A = ℕ} 0 1 = cc in absurd (omega arith)
-pass_due (pass.Open l) whole e = let z : ◌≡◌ {A = ℕ} 0 1 = cc in absurd (omega arith)
-pass_due pass.Changed true e = let z : ◌≡◌ {A = ℕ} 0 1 = cc in absurd (omega arith)
-pass_due pass.Changed false e = (refl, refl)
-
-pub sweep_due : (a size p front d : ℕ) → d ≡ 1 → front < size
-    → a * (2 * (size + 1)) + (0 * (size + 1) + (size - front)) < a * (2 * (size + 1)) + (d * (size + 1) + (size - p))
-sweep_due a size p front d e h = omega (arith, ap (λ x. x * (size + 1)) e)

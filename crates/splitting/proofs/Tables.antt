@@ -1,24 +1,22 @@
 -- The table of values and the trail: what one write to both keeps.
-use Rattle.std.proofs.Common.{◌≡◌, ℕ, zero, suc, ◌+◌, ◌-◌, ◌/◌, ◌%◌, ◌<◌, ◌≤◌, ◌≢◌, true, eqb, ◌⊎◌, List, [], ◌∷◌, length, get_or, set, sym, refl, ap, ◌∙◌, subst, inl, inr, arith}
-use Rattle.std.proofs.lemmas.List.{get_or-set_same, get_or-set_other, length-set}
-use Rattle.std.proofs.lemmas.Bool.{cases_eq, eq-eqb, eqb-true, or_left, or_right, or_cases, false≢true}
+use Rattle.std.proofs.Common.{◌≡◌, ℕ, zero, suc, ◌+◌, ◌-◌, ◌/◌, ◌%◌, ◌<◌, ◌≤◌, ◌≢◌, true, eqb, ◌⊎◌, List, [], ◌∷◌, length, get_or, take, set, sym, refl, ap, ◌∙◌, subst, inl, inr, arith}
+use Rattle.std.proofs.lemmas.List.{get_or-set_same, get_or-set_other, get_or-take, get_or_default, length-set, length-take, length-take-le}
+use Rattle.std.proofs.lemmas.List.Folds.{list_any_at, Any-from_list_any}
+use Rattle.std.proofs.lemmas.Bool.{cases_eq, eq-eqb, eqb-true}
 use Rattle.splitting.specs.Cells.{Holds, Unset}
 use Rattle.splitting.specs.Trails.{zeros, on_trail, Kept}
 
 -- the place of a variable's literal
 pub on_trail_at : (trail : List ℕ) (n v : ℕ) → on_trail trail n v ≡ true → (i : ℕ) × ((i < n) × (get_or trail i 0 / 2 ≡ v))
-on_trail_at trail zero v e = absurd (false≢true e)
-on_trail_at trail (suc n) v e = elim (or_cases (eqb (get_or trail n 0 / 2) v) (on_trail trail n v) e) [
-  | inl q ↦ (n, (omega arith, eqb-true (get_or trail n 0 / 2) v q))
-  | inr q ↦ (let w = on_trail_at trail n v q in (w.0, (omega (arith, w.1.0), w.1.1)))
-]
+on_trail_at trail n v e =
+    let w = Any-from_list_any (λ l. eqb (l / 2) v) (take n trail) e in
+    let h : w.0 < n = omega (arith, w.2, length-take n trail) in
+    let q : get_or trail w.0 0 ≡ w.1 = sym (get_or-take n trail w.0 0 h) ∙ get_or_default (take n trail) w.0 0 w.1 w.2 ∙ w.3 in
+    (w.0, (h, ap (λ l. l / 2) q ∙ eqb-true (w.1 / 2) v w.4))
 
-pub on_trail_of : (trail : List ℕ) (n v i : ℕ) → i < n → get_or trail i 0 / 2 ≡ v → on_trail trail n v ≡ true
-on_trail_of trail zero v i h e = absurd (omega arith)
-on_trail_of trail (suc n) v i h e = elim (cases_eq i n) [
-  | inl q ↦ or_left _ (on_trail trail n v) (eq-eqb (get_or trail n 0 / 2) v (ap (λ x. get_or trail x 0 / 2) (sym q) ∙ e))
-  | inr q ↦ or_right _ _ (on_trail_of trail n v i (omega (arith, q)) e)
-]
+pub on_trail_of : (trail : List ℕ) (n v i : ℕ) → n ≤ length trail → i < n → get_or trail i 0 / 2 ≡ v → on_trail trail n v ≡ true
+on_trail_of trail n v i b h e =
+    list_any_at (λ l. eqb (l / 2) v) (take n trail) i 0 (omega (arith, length-take-le n trail b)) (eq-eqb _ v (ap (λ l. l / 2) (get_or-take n trail i 0 h) ∙ e))
 
 pub listed_at : (value trail : List ℕ) (n v : ℕ) → Kept value trail n → 1 ≤ get_or value v 0 → (i : ℕ) × ((i < n) × (get_or trail i 0 / 2 ≡ v))
 listed_at value trail n v k h = on_trail_at trail n v (k.listed v h)
@@ -29,7 +27,7 @@ kept_past value trail n l k =
     let same : (i : ℕ) → i < n → get_or (set trail n l) i 0 ≡ get_or trail i 0 = λ i h. get_or-set_other trail n i l 0 (λ q. omega arith) in
     record {
       sound = λ i h. ap (λ x. get_or value (x / 2) 0) (same i h) ∙ k.sound i h ∙ ap (λ x. 1 + x % 2) (sym (same i h));
-      listed = λ v h. let w = listed_at value trail n v k h in on_trail_of (set trail n l) n v w.0 w.1.0 (ap (λ x. x / 2) (same w.0 w.1.0) ∙ w.1.1);
+      listed = λ v h. let w = listed_at value trail n v k h in on_trail_of (set trail n l) n v w.0 (omega (arith, k.room, length-set trail n l)) w.1.0 (ap (λ x. x / 2) (same w.0 w.1.0) ∙ w.1.1);
       apart = λ i j a b e. k.apart i j a b (ap (λ x. x / 2) (sym (same i (omega arith))) ∙ e ∙ ap (λ x. x / 2) (same j b));
       inside = λ i h. omega (arith, k.inside i h, ap (λ x. x / 2) (same i h));
       room = omega (arith, k.room, length-set trail n l);
@@ -76,11 +74,11 @@ module _ (value trail : List ℕ) (n l : ℕ) (k : Kept value trail n) (u : Unse
 
   listed_push : (v : ℕ) → 1 ≤ get_or (set value (l / 2) (1 + l % 2)) v 0 → on_trail (set trail n l) (n + 1) v ≡ true
   listed_push v h = elim (at_set value (l / 2) (1 + l % 2) v t) [
-    | inl e ↦ on_trail_of (set trail n l) (n + 1) v n (omega arith) (ap (λ x. x / 2) (get_or-set_same trail n l 0 push_room) ∙ sym e.0)
+    | inl e ↦ on_trail_of (set trail n l) (n + 1) v n (omega (arith, push_room, length-set trail n l)) (omega arith) (ap (λ x. x / 2) (get_or-set_same trail n l 0 push_room) ∙ sym e.0)
     | inr e ↦
         let i = listed_at value trail n v k (omega (arith, e.1, h)) in
         let ne : i.0 ≢ n = omega (arith, i.1.0) in
-        on_trail_of (set trail n l) (n + 1) v i.0 (omega (arith, i.1.0)) (ap (λ x. x / 2) (get_or-set_other trail n i.0 l 0 ne) ∙ i.1.1)
+        on_trail_of (set trail n l) (n + 1) v i.0 (omega (arith, push_room, length-set trail n l)) (omega (arith, i.1.0)) (ap (λ x. x / 2) (get_or-set_other trail n i.0 l 0 ne) ∙ i.1.1)
   ]
 
   apart_push : (i j : ℕ) → i < j → j < n + 1 → get_or (set trail n l) i 0 / 2 ≡ get_or (set trail n l) j 0 / 2 → ⊥
@@ -121,7 +119,7 @@ module _ (value trail : List ℕ) (n : ℕ) (k : Kept value trail (n + 1)) where
           | inr e ↦
               let i = listed_at value trail (n + 1) v k (omega (arith, e.1, h)) in
               let ne : i.0 ≢ n = λ q. e.0 (sym i.1.1 ∙ ap (λ x. get_or trail x 0 / 2) q) in
-              on_trail_of trail n v i.0 (omega (arith, i.1.0, ne)) i.1.1
+              on_trail_of trail n v i.0 (omega (arith, k.room)) (omega (arith, i.1.0, ne)) i.1.1
         ];
         apart = λ i j a b e. k.apart i j a (omega arith) e;
         inside = λ i h. omega (arith, k.inside i (omega arith), length-set value (get_or trail n 0 / 2) 0);
@@ -133,9 +131,6 @@ kept_down value trail n k h =
     let e : n ≡ n - 1 + 1 = omega arith in
     let P : ℕ → Type 0 = λ x. Kept value trail x in
     kept_pop value trail (n - 1) (subst P e k)
-
-pub kept_short : (value trail : List ℕ) (n : ℕ) → Kept value trail n → n ≤ length trail
-kept_short value trail n k = omega (arith, k.room)
 
 zeros_le : (xs : List ℕ) → zeros xs ≤ length xs
 zeros_le [] = omega arith

@@ -1,6 +1,7 @@
 -- The state of a search: a trail of literals, each with the number of a reason, and a table of the values that they give.
 -- The places below `base` hold the assumptions.
-use Rattle.std.specs.Prelude.{◌≡◌, ℕ, zero, suc, ◌+◌, ◌-◌, ◌*◌, ◌/◌, ◌%◌, ◌^◌, ◌<◌, ◌≤◌, Bool, true, false, ◌||◌, ◌==◌, List, [], ◌∷◌, length, get_or, take, ◌≢◌, slice_index, slice_index_or}
+use Rattle.std.specs.Prelude.{◌≡◌, ℕ, zero, suc, ◌+◌, ◌-◌, ◌*◌, ◌/◌, ◌%◌, ◌^◌, ◌<◌, ◌≤◌, Bool, true, ◌==◌, List, [], ◌∷◌, length, get_or, take, ◌≢◌, slice_index, slice_index_or}
+use Rattle.std.specs.List.{list_any}
 use Rattle.splitting.specs.Cells.{Holds, Met}
 use Rattle.cells.specs.Cells.{clauses, Starts}
 
@@ -12,8 +13,7 @@ zeros (suc x ∷ xs) = zeros xs
 
 -- whether one of the first n literals of the trail is of variable v
 abbrev pub on_trail : List ℕ → ℕ → ℕ → Bool
-on_trail trail zero v = false
-on_trail trail (suc n) v = slice_index trail n / 2 == v || on_trail trail n v
+on_trail trail n v = list_any (λ l. l / 2 == v) (take n trail)
 
 -- the table says just what the first n literals of the trail say
 pub record Kept (value trail : List ℕ) (n : ℕ) : Type 0 where

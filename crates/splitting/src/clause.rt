@@ -40,8 +40,9 @@ impl<'a> Trail<'a> {
         ensures { Judged result self.now.value.now literal }
     {
         match self.value[(literal / 2) as usize] {
+            is if is == 1 + literal % 2 => Some(true),
             0 => None,
-            is => Some(is == 1 + literal % 2),
+            _ => Some(false),
         }
     }
 

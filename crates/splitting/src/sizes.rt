@@ -19,38 +19,30 @@ fn sizes_fit(numbers: usize, variables: usize) -> bool
 pub fn check(numbers: usize, variables: usize) -> Result<(), SolverFault>
     ensures { result_err result ≡ size_fault numbers variables }
 {
-    if sizes_fit(numbers, variables) {
-        Ok(())
-    } else {
-        Err(SolverFault::SizeUnfit)
-    }
+    sizes_fit(numbers, variables)
+        .then_some(())
+        .ok_or(SolverFault::SizeUnfit)
 }
 
 // The largest variable, the numbers of each of the search's four columns, and the cells.
+#[derive(Default)]
 pub struct Sizes {
     pub variables: usize,
     pub column: usize,
     pub cells: usize,
 }
 
+// Where they do not fit, each is 0.
 pub fn sizes_over(numbers: usize, variables: usize) -> Sizes
     ensures variables { result.variables ≡ variables_over numbers variables }
     ensures column { result.column ≡ column_over numbers variables }
     ensures cells { result.cells ≡ cells_over numbers variables }
     ensures bound { 4 * result.column + result.cells ≤ numbers }
 {
-    if sizes_fit(numbers, variables) {
-        let column = variables + 1;
-        Sizes {
-            variables,
-            column,
-            cells: numbers - 4 * column,
-        }
-    } else {
-        Sizes {
-            variables: 0,
-            column: 0,
-            cells: 0,
-        }
-    }
+    let sizes = sizes_fit(numbers, variables).then(|| Sizes {
+        variables,
+        column: variables + 1,
+        cells: numbers - 4 * (variables + 1),
+    });
+    sizes.unwrap_or_default()
 }
