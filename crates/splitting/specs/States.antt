@@ -1,14 +1,8 @@
 -- How a clause stands under a table of values, by its first literals.
-use Rattle.std.specs.Prelude.{◌≡◌, ℕ, ◌<◌, Bool, true, false, List, Some, None, Option, ◌≢◌, slice_index, slice_index_or}
-use Rattle.splitting.specs.Cells.{Holds, Unset, Fails, Met}
+use Rattle.std.specs.Prelude.{◌≡◌, ℕ, ◌<◌, List, ◌≢◌, slice_index, slice_index_or}
+use Rattle.splitting.specs.Cells.{Unset, Fails, Met}
 use Rattle.splitting.specs.declared.clause.State.{State}
 use Rattle.splitting.specs.declared.clause.State.TheVariants.{Satisfied, Forces, Conflict, Open}
-
--- how a literal stands: it is true, false or without a value
-abbrev pub Judged : Option Bool → List ℕ → ℕ → Type 0
-Judged None value l = Unset value l
-Judged (Some true) value l = Holds value l
-Judged (Some false) value l = Fails value l
 
 -- of the first i literals of c, l has no value and every other is false
 pub record Forced (c value : List ℕ) (i l : ℕ) : Type 0 where

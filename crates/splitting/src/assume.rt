@@ -22,13 +22,11 @@ impl<'a> Trail<'a> {
     {
         for literal in assumed {
             let code = u32::from(literal.code);
-            match self.truth(code) {
-                None => self.push(code, Reason::Turned),
-                Some(true) => {}
-                Some(false) => {
-                    seen[literal.variable()] = 1;
-                    return false;
-                }
+            if self.is_unset(code) {
+                self.push(code, Reason::Turned);
+            } else if !self.is_true(code) {
+                seen[literal.variable()] = 1;
+                return false;
             }
         }
         self.base = self.count;

@@ -1,8 +1,8 @@
 // How a clause stands under a table of values.
 
-ghost use Rattle.std.specs.Prelude.{◌≡◌, ◌/◌, ◌<◌, length};
-ghost use Rattle.splitting.specs.Cells.{InTable};
-ghost use Rattle.splitting.specs.States.{Judged, Standing, Joined};
+ghost use Rattle.std.specs.Prelude.{◌≡◌, ◌↔◌, ◌/◌, ◌<◌, IsTrue, length};
+ghost use Rattle.splitting.specs.Cells.{InTable, Holds, Unset};
+ghost use Rattle.splitting.specs.States.{Standing, Joined};
 
 use crate::trail::Trail;
 
@@ -34,16 +34,18 @@ impl State {
 }
 
 impl<'a> Trail<'a> {
-    // Whether a literal is true, where its variable has a value.
-    pub fn truth(&self, literal: u32) -> Option<bool>
+    pub fn is_true(&self, literal: u32) -> bool
         requires { literal / 2 < length self.now.value.now }
-        ensures { Judged result self.now.value.now literal }
+        ensures { IsTrue result ↔ Holds self.now.value.now literal }
     {
-        match self.value[(literal / 2) as usize] {
-            is if is == 1 + literal % 2 => Some(true),
-            0 => None,
-            _ => Some(false),
-        }
+        self.value[(literal / 2) as usize] == 1 + literal % 2
+    }
+
+    pub fn is_unset(&self, literal: u32) -> bool
+        requires { literal / 2 < length self.now.value.now }
+        ensures { IsTrue result ↔ Unset self.now.value.now literal }
+    {
+        self.value[(literal / 2) as usize] == 0
     }
 
     pub fn state(&self, clause: &[u32]) -> State
@@ -52,10 +54,11 @@ impl<'a> Trail<'a> {
     {
         let mut state = State::Conflict;
         for literal in clause {
-            match self.truth(*literal) {
-                Some(true) => return State::Satisfied,
-                Some(false) => {}
-                None => state = state.with_unset(*literal),
+            if self.is_true(*literal) {
+                return State::Satisfied;
+            }
+            if self.is_unset(*literal) {
+                state = state.with_unset(*literal);
             }
         }
         state
