@@ -1,7 +1,7 @@
 // How a clause stands under a table of values.
 
-ghost use Rattle.std.specs.Prelude.{◌≡◌, ◌↔◌, ◌/◌, ◌<◌, IsTrue, length};
-ghost use Rattle.splitting.specs.Cells.{InTable, Holds, Unset};
+ghost use Rattle.std.specs.Prelude.{◌≡◌, length};
+ghost use Rattle.splitting.specs.Cells.{InTable};
 ghost use Rattle.splitting.specs.States.{Standing, Joined};
 
 use crate::trail::Trail;
@@ -34,20 +34,7 @@ impl State {
 }
 
 impl<'a> Trail<'a> {
-    pub fn is_true(&self, literal: u32) -> bool
-        requires { literal / 2 < length self.now.value.now }
-        ensures { IsTrue result ↔ Holds self.now.value.now literal }
-    {
-        self.value[(literal / 2) as usize] == 1 + literal % 2
-    }
-
-    pub fn is_unset(&self, literal: u32) -> bool
-        requires { literal / 2 < length self.now.value.now }
-        ensures { IsTrue result ↔ Unset self.now.value.now literal }
-    {
-        self.value[(literal / 2) as usize] == 0
-    }
-
+    // How a clause stands under the values that the trail gives.
     pub fn state(&self, clause: &[u32]) -> State
         requires { InTable clause.now (length self.now.value.now) }
         ensures { Standing result clause.now self.now.value.now (length clause.now) }

@@ -15,7 +15,7 @@ use sat::{Answer, Solver, SolverFault, check_decide, check_hold, check_keep};
 #[derive(Drop)]
 pub struct Splitting<'a> {
     pub(crate) trail: Trail<'a>,
-    // By variable: whether what is assumed of it counts in a conflict.
+    // By variable, in a lent number: 1 where what is assumed of it counts in a conflict, else 0.
     pub(crate) seen: &'a mut [u32],
     pub(crate) cells: Cells<'a>,
     pub(crate) variables: usize,
@@ -57,8 +57,7 @@ impl<'a> Solver for Splitting<'a> {
     ghost meaning = { meaning_of };
 
     fn variables(&self) -> usize {
-        let variables = self.variables;
-        variables
+        self.variables
     }
 
     fn cells(&self) -> usize {

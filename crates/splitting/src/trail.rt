@@ -1,12 +1,13 @@
 // The trail: which literals have been made true, in their order, and why.
 
-ghost use Rattle.std.specs.Prelude.{◌≡◌, ℕ, ◌+◌, ◌/◌, ◌%◌, ◌<◌, ◌≤◌, length, slice_index, slice_set};
-ghost use Rattle.splitting.specs.Cells.{Unset};
+ghost use Rattle.std.specs.Prelude.{◌≡◌, ◌↔◌, ◌+◌, ◌/◌, ◌%◌, ◌<◌, ◌≤◌, IsTrue, length, slice_index, slice_set};
+ghost use Rattle.splitting.specs.Cells.{Holds, Unset};
 ghost use Rattle.splitting.specs.Trails.{Kept, negation};
 ghost use Rattle.splitting.specs.Reasons.{Small, number_of};
 
 use crate::reason::Reason;
 
+// A value, a literal and a reason are a number each, since a solver has four lent numbers for each variable.
 #[derive(Drop)]
 pub struct Trail<'a> {
     // By variable: 0 for no value yet, 1 for true, 2 for false.
@@ -46,6 +47,22 @@ impl<'a> Trail<'a> {
             count: 0,
             base: 0,
         }
+    }
+
+    // Whether a literal is true.
+    pub fn is_true(&self, literal: u32) -> bool
+        requires { literal / 2 < length self.now.value.now }
+        ensures { IsTrue result ↔ Holds self.now.value.now literal }
+    {
+        self.value[(literal / 2) as usize] == 1 + literal % 2
+    }
+
+    // Whether its variable has no value yet.
+    pub fn is_unset(&self, literal: u32) -> bool
+        requires { literal / 2 < length self.now.value.now }
+        ensures { IsTrue result ↔ Unset self.now.value.now literal }
+    {
+        self.value[(literal / 2) as usize] == 0
     }
 
     // Makes a literal true.
