@@ -1,6 +1,7 @@
 -- Why a literal stands on the trail, and the number that says so: an odd one says that the place is an open decision, 0 that
 -- it was one and is turned round or is an assumption, and any other that a clause forces its literal.
 use Rattle.std.specs.Prelude.{◌≡◌, ℕ, ◌+◌, ◌-◌, ◌*◌, ◌/◌, ◌%◌, ◌≤◌}
+use Rattle.splitting.specs.declared.reason.TheConstants.{LAST_PLACE}
 use Rattle.splitting.specs.declared.reason.Reason.{Reason}
 use Rattle.splitting.specs.declared.reason.Reason.TheVariants.{Open, Turned, Forced}
 
@@ -18,6 +19,6 @@ number_of (Forced p) = 2 * (p + 1)
 
 -- its place is one that a number can hold
 abbrev pub Small : Reason → Type 0
-Small (Open front) = front ≤ 0x7fff_fffe
+Small (Open front) = front ≤ LAST_PLACE
 Small Turned = Unit {0}
-Small (Forced p) = p ≤ 0x7fff_fffe
+Small (Forced p) = p ≤ LAST_PLACE

@@ -16,7 +16,7 @@ fn write_values(value: &[u32], variables: usize, values: &mut [u8])
     ensures { Valued value.now variables values.old values.new }
 {
     values[0] = 0;
-    for variable in 1..variables + 1 {
+    for variable in 1..=variables {
         values[variable] = u8::from(value[variable] == 1);
     }
 }
