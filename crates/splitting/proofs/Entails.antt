@@ -118,8 +118,8 @@ pub good_write : (cells : List ℕ) (t t' : Trail) (n l why : ℕ) → Writes t 
 good_write cells t t' n l why w g lo hi e f =
     let h = room_of t t' n l why w in
     rw (w.literals, w.reasons, w.count, w.base) (record {
-      reasons = reasons_write cells t.literals.now t.reasons.now t.base n l why h (omega (arith, t.sizes)) lo (λ y p q. g.reasons y p (omega arith)) e;
-      fronts = fronts_write cells t.literals.now t.reasons.now t.base n l why h (omega (arith, t.sizes)) lo (λ y p q. g.fronts y p (omega arith)) f;
+      reasons = reasons_write cells t.literals.now t.reasons.now t.base n l why h (omega (arith, t.literal_room, t.reason_room)) lo (λ y p q. g.reasons y p (omega arith)) e;
+      fronts = fronts_write cells t.literals.now t.reasons.now t.base n l why h (omega (arith, t.literal_room, t.reason_room)) lo (λ y p q. g.fronts y p (omega arith)) f;
     })
 
 -- the same of what follows
@@ -129,7 +129,7 @@ pub follows_at : (cells seen : List ℕ) (t t' : Trail) (n l why : ℕ) → Writ
     → Follows cells t'.literals.now t'.reasons.now seen t'.base t'.count
 follows_at cells seen t t' n l why w lo hi follows e =
     rw (w.literals, w.reasons, w.count, w.base)
-    (follows_write cells t.literals.now t.reasons.now t.base n l why (room_of t t' n l why w) (omega (arith, t.sizes, room_of t t' n l why w)) lo seen (λ y p q. follows y p (omega arith)) e)
+    (follows_write cells t.literals.now t.reasons.now t.base n l why (room_of t t' n l why w) (omega (arith, t.literal_room, t.reason_room, room_of t t' n l why w)) lo seen (λ y p q. follows y p (omega arith)) e)
 
 -- forced places alone are new
 pub follows_same : (cells seen : List ℕ) (t t' : Trail) → Spreads t t'
@@ -188,5 +188,5 @@ front_turned cells t t' i l w g lo hi odd =
     let p = get_or t.reasons.now i 0 / 2 in
     let h = room_of t t' i l 0 w in
     let by : FrontBy cells t'.literals.now i p
-    = rw w.literals (front_by_write cells t.literals.now t.reasons.now t.base i l 0 h (omega (arith, t.sizes)) lo i p (omega arith) (g.fronts i lo hi odd)) in
+    = rw w.literals (front_by_write cells t.literals.now t.reasons.now t.base i l 0 h (omega (arith, t.literal_room, t.reason_room)) lo i p (omega arith) (g.fronts i lo hi odd)) in
     front_since cells t'.value.now t'.literals.now t'.count i p t'.kept (omega (arith, w.count)) by

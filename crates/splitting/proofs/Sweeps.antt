@@ -114,7 +114,7 @@ spreads_on t₀ t t' l why w some s = record {
   longer = omega (arith, w.count, s.longer);
   same_literals = same_more t.literals.now t'.literals.now t₀.literals.now t₀.count t.count l s.longer w.literals s.same_literals;
   same_reasons = same_more t.reasons.now t'.reasons.now t₀.reasons.now t₀.count t.count why s.longer w.reasons s.same_reasons;
-  forced = λ j lo hi. new_more t.reasons.now t'.reasons.now t₀.count t.count why (omega (arith, t.sizes, room_of t t' t.count l why w)) w.reasons some s.forced j lo (omega (arith, w.count));
+  forced = λ j lo hi. new_more t.reasons.now t'.reasons.now t₀.count t.count why (omega (arith, t.literal_room, t.reason_room, room_of t t' t.count l why w)) w.reasons some s.forced j lo (omega (arith, w.count));
   bound = omega (arith, s.bound, less_pushed t t' l why w);
 }
 

@@ -83,7 +83,7 @@ less_closed reason reason' i n x a b o s e =
 
 -- a literal more, and an open decision turned round
 pub less_pushed : (t t' : Trail) (l why : ℕ) → Writes t t' t.count l why → left t'.reasons.now t'.count < left t.reasons.now t.count
-less_pushed t t' l why w = rw w.count (less_more t.reasons.now t'.reasons.now t.count why (omega (arith, t.sizes, room_of t t' t.count l why w)) w.reasons)
+less_pushed t t' l why w = rw w.count (less_more t.reasons.now t'.reasons.now t.count why (omega (arith, t.literal_room, t.reason_room, room_of t t' t.count l why w)) w.reasons)
 
 pub less_turned : (t t' : Trail) (i l : ℕ) → Writes t t' i l 0 → i < t.count → get_or t.reasons.now i 0 % 2 ≡ 1 → left t'.reasons.now t'.count < left t.reasons.now t.count
-less_turned t t' i l w h odd = rw w.count (less_closed t.reasons.now t'.reasons.now i t.count 0 h (omega (arith, t.kept.room, t.sizes)) odd (omega arith) w.reasons)
+less_turned t t' i l w h odd = rw w.count (less_closed t.reasons.now t'.reasons.now i t.count 0 h (omega (arith, t.kept.room, t.literal_room, t.reason_room)) odd (omega arith) w.reasons)

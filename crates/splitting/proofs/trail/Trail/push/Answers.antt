@@ -1,4 +1,4 @@
-use Rattle.std.proofs.Common.{sym, ◌∙◌, arith}
+use Rattle.std.proofs.Common.{arith}
 use Rattle.std.proofs.lemmas.List.{length-set}
 use Rattle.splitting.proofs.Tables.{push_room, kept_push, kept_past}
 use Rattle.splitting.proofs.trail.Trail.push.Goals as goal
@@ -11,7 +11,8 @@ invariant_of-self c =
     let t = c.args.self.now in
     record {
       kept = kept_past t.value.now t.literals.now t.count c.args.literal t.kept;
-      sizes = t.sizes ∙ sym (length-set t.literals.now t.count c.args.literal);
+      literal_room = simp length-set t.literal_room;
+      reason_room = t.reason_room;
       based = t.based;
     }
 
@@ -24,6 +25,7 @@ invariant_of-self-3 c =
     let t = c.args.self.now in
     record {
       kept = kept_push t.value.now t.literals.now t.count c.args.literal t.kept c.requires.unset c.requires.inside;
-      sizes = simp length-set t.sizes;
+      literal_room = simp length-set t.literal_room;
+      reason_room = simp length-set t.reason_room;
       based = omega arith;
     }
