@@ -1,8 +1,9 @@
 -- The measure of a search: what is left falls where a place is written at the trail's end, and where an open decision's
 -- place is written again as none.
+use Rattle.std.proofs.lemmas.Grind.{common_steps}
 use Rattle.std.proofs.Common.{◌≡◌, ℕ, zero, suc, ◌+◌, ◌-◌, ◌*◌, ◌%◌, ◌^◌, ◌<◌, ◌≤◌, List, [], ◌∷◌, ◌++◌, length, get_or, take, drop, set, sym, ap, ◌∙◌, subst, suc-mul, arith}
 use native.Mathlib.Nat.{pow-succ'}
-use Rattle.std.proofs.lemmas.List.{length-set, take_more_set, length-take-le, drop_more, take-append-drop, get_or-take, take-take, append-nil}
+use Rattle.std.proofs.lemmas.List.{length-set, take_more_set, length-take-le, append-nil}
 use Rattle.splitting.specs.Trails.{weight, left}
 use Rattle.splitting.specs.Searches.{Writes}
 use Rattle.splitting.specs.declared.trail.Trail.{Trail}
@@ -58,13 +59,7 @@ less_more reason reason' n x h e =
     subst P (sym e) z
 
 split_at : (reason : List ℕ) (i n : ℕ) → i < n → n ≤ length reason → take n reason ≡ take i reason ++ get_or reason i 0 ∷ drop (i + 1) (take n reason)
-split_at reason i n a b =
-    let lt : i < length (take n reason) = omega (arith, length-take-le n reason b) in
-    let e : take i (take n reason) ≡ take i reason = take-take i n reason (omega arith) in
-    let f : get_or (take n reason) i 0 ≡ get_or reason i 0 = get_or-take n reason i 0 a in
-    let g : drop i (take n reason) ≡ get_or (take n reason) i 0 ∷ drop (i + 1) (take n reason) = drop_more (take n reason) i 0 lt in
-    let t : take i (take n reason) ++ drop i (take n reason) ≡ take n reason = take-append-drop i (take n reason) in
-    cc
+split_at reason i n a b = grind (arith, common_steps)
 
 less_closed : (reason reason' : List ℕ) (i n x : ℕ) → i < n → n ≤ length reason → get_or reason i 0 % 2 ≡ 1 → x % 2 ≡ 0
     → reason' ≡ set reason i x → left reason' (i + 1) < left reason n
