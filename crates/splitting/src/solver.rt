@@ -79,6 +79,7 @@ impl<'a> Solver for Splitting<'a> {
     }
 
     // On no the assumptions are marked that some conflict came from.
+    #[tactic(auto, using(crate::proofs::Refusals::decide_accepts))]
     fn decide(
         &mut self,
         assumed: &[Literal],
