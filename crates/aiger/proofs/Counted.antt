@@ -161,10 +161,6 @@ gate_forward at g st h =
     ∙ ap (λ x. and_then x λ _. cond (not (known_to r g.left) || not (known_to r g.right)) (Err (fault.Undefined at)) (leave_g (put_g g st))) (fresh_forward at g.output r q.0)
     ∙ cond-false (not (known_to r g.left) || not (known_to r g.right)) _ _ (ap (λ x. not x || not (known_to r g.right)) k.0 ∙ ap not k.1)
 
-not_true : (b : Bool) → not b ≡ false → b ≡ true
-not_true true h = refl
-not_true false h = absurd (let z : ◌≡◌ {A = ℕ} 0 1 = cc in omega arith)
-
 pub gate_backward : (at : ℕ) (g : Gate) (st u : State) → gate_on at g st ≡ Ok u → (ok_g g st ≡ true) × (leave_g (put_g g st) ≡ Ok u)
 unfolding gate_on
 gate_backward at g st u e =

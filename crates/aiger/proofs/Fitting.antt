@@ -167,6 +167,6 @@ advance_fits at c st f = advance_fits_at st.reader.section at c st refl f
 pub keep : (at : ℕ) (c : Content) (st t : State) → Ok t ≡ advance at c st → InState st → InState t
 keep at c st t e f = subst (λ x. IfOk x InState) (sym e) (advance_fits at c st f)
 
-pub start_fits : (h : Header) (n m : ℕ) → Bounds (model_of h) n → m ≡ n → Fits (start_of h) m
+pub start_fits : (h : Header) (r : Reader) (n m : ℕ) → Bounds (model_of h) n → r ≡ start_of h → m ≡ n → Fits r m
 unfolding start_of
-start_fits h n m b e = subst (λ k. Fits (leave_inputs (raw_start h)) k) (sym e) (leave_inputs_fits n (raw_start h) b refl (omega arith))
+start_fits h r n m b s e = subst (λ q. Fits q m) (sym s) (subst (λ k. Fits (leave_inputs (raw_start h)) k) (sym e) (leave_inputs_fits n (raw_start h) b refl (omega arith)))

@@ -7,7 +7,6 @@ pub mod Fitting
 pub mod Headers
 pub mod Laws
 pub mod Lines
-pub mod Loops
 pub mod Named
 pub mod Naming
 pub mod Records

@@ -4,13 +4,12 @@ ghost use Rattle.std.specs.Prelude.{◌≡◌, ◌≤◌, true, length, replicat
 ghost use Rattle.circuit.specs.Parts.{blank_gate};
 ghost use Rattle.circuit.specs.Sound.{sound};
 ghost use Rattle.aiger.specs.Format.{ReadLaw};
-ghost use Rattle.aiger.specs.Line.{content_of, malformed};
 ghost use Rattle.aiger.specs.Advance.{both, state_of, Fits, Bounds, model_of};
 ghost use Rattle.aiger.specs.Read.{folded, lines_of, sized_of, filled, fill_of, answered, read_of};
 
 use crate::fault::ReadFault;
 use crate::line::{Header, Line, classify, read_header};
-use crate::reader::Reader;
+use crate::reader::{Reader, Reading};
 use circuit::record::{MAX_GATES, MAX_INPUTS, MAX_LATCHES, MAX_VARIABLE};
 use circuit::{Gate, Record};
 use text::cut;
@@ -48,9 +47,11 @@ fn fill(file: &[u8], gates: &mut [Gate], record: &mut Record) -> Result<(), Read
     };
     check_sizes(header, gates.len())?;
     gates.fill(Gate::BLANK);
-    let mut reader = Reader::new(header);
-    read_lines(&mut reader, gates, rest)?;
-    *record = reader.model;
+    let mut reading = Reading {
+        state: Reader::new(header),
+    };
+    read_lines(&mut reading, gates, rest)?;
+    *record = reading.state.model;
     Ok(())
 }
 
@@ -79,21 +80,22 @@ fn check_sizes(header: Header, places: usize) -> Result<(), ReadFault>
     Ok(())
 }
 
-// Takes the lines of `text`, the first of which is line 2 of the file.
-fn read_lines(reader: &mut Reader, gates: &mut [Gate], text: &[u8]) -> Result<(), ReadFault>
-    requires { (Fits reader.old (length gates.old)) × (length text.now ≤ 65536) }
-    ensures { both result reader.new gates.new ≡ folded 2 (lines_of text.now) (state_of reader.old gates.old) }
+// Takes the lines of `text`, the first of which is line 2 of the file. The number is counted along, since the end has one too.
+fn read_lines(reading: &mut Reading, gates: &mut [Gate], text: &[u8]) -> Result<(), ReadFault>
+    requires fits { Fits reading.old.state (length gates.old) }
+    requires short { length text.now ≤ 65536 }
+    ensures { both result reading.new.state gates.new ≡ folded 2 (lines_of text.now) (state_of reading.old.state gates.old) }
 {
     let mut rest = text;
     let mut at: u32 = 2;
     while let Some((line, after)) = cut(rest, b'\n') {
-        reader.take(gates, at, classify(line))?;
+        reading.take(gates, at, classify(line))?;
         at += 1;
         rest = after;
     }
     if !rest.is_empty() {
-        reader.take(gates, at, Line::Malformed)?;
-        return reader.end(at + 1);
+        reading.take(gates, at, Line::Malformed)?;
+        return reading.end(at + 1);
     }
-    reader.end(at)
+    reading.end(at)
 }

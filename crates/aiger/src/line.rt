@@ -59,6 +59,7 @@ fn symbol<'a>(kind: SymbolKind, bytes: &'a [u8]) -> Line<'a>
 }
 
 // What the bytes of a line say, without its line feed.
+#[tactic(auto, unfolding(crate::specs::Line::line_of), using(crate::proofs::Lines::line_parts, crate::proofs::Lines::line_whole, crate::proofs::Lines::line_empty))]
 pub fn classify<'a>(bytes: &'a [u8]) -> Line<'a>
     ensures { content_of result ≡ line_of bytes.now }
 {

@@ -4,7 +4,7 @@ ghost use Rattle.std.specs.Prelude.{◌≡◌, ◌+◌, ◌<◌, ◌≤◌, List
 ghost use Rattle.circuit.specs.Sound.{answer_count, event_count};
 ghost use Rattle.circuit.specs.Parts.{inputs_of};
 ghost use Rattle.aiger.specs.Line.{begins, content_of};
-ghost use Rattle.aiger.specs.Advance.{after, both, over, known_to, fresh_on, leave_inputs, leave_latches, leave_gates, input_on, latch_on, close_on, output_on, gate_on, symbol_on, advance, end_on, sides_on, state_of, start_of, Fits};
+ghost use Rattle.aiger.specs.Advance.{after, both, over, after, known_to, fresh_on, leave_inputs, leave_latches, leave_gates, input_on, latch_on, close_on, output_on, gate_on, symbol_on, advance, end_on, sides_on, state_of, start_of, Fits};
 
 use crate::fault::ReadFault;
 use crate::line::{Header, Line, SymbolKind};
@@ -79,13 +79,6 @@ impl Reader {
         reader
     }
 
-    fn over(&self, literal: Literal) -> bool
-        requires { self.now.model.maximum ≤ 4096 }
-        ensures { result ≡ over self.now literal }
-    {
-        literal.code > 2 * self.model.maximum + 1
-    }
-
     fn knows(&self, literal: Literal) -> bool
         ensures { result ≡ known_to self.now literal }
     {
@@ -95,26 +88,11 @@ impl Reader {
             .unwrap_or(false)
     }
 
-    // Refuses a literal that line `at` may not define.
-    #[tactic(auto, unfolding(crate::specs::Advance::fresh_on))]
-    fn check_fresh(&self, at: u32, literal: Literal) -> Result<(), ReadFault>
-        requires { self.now.model.maximum ≤ 4096 }
-        ensures value { result ≡ fresh_on at literal self.now }
-        ensures bound { OnOk result (literal.code ≤ 8193) }
-    {
-        if self.over(literal) || literal.code % 2 == 1 || literal.code == 0 {
-            return Err(ReadFault::BadLiteral(at));
-        }
-        if self.knows(literal) {
-            return Err(ReadFault::DefinedTwice(at));
-        }
-        Ok(())
-    }
-
     // Goes on to the latches where all inputs are read.
     #[tactic(auto, unfolding(crate::specs::Advance::leave_inputs))]
     fn leave_inputs(&mut self)
-        ensures { self.new ≡ leave_inputs self.old }
+        ensures value { self.new ≡ leave_inputs self.old }
+        ensures model { self.new.model ≡ self.old.model }
     {
         if self.place == self.model.input_count {
             self.section = Section::Latches;
@@ -126,24 +104,57 @@ impl Reader {
     // Goes on to the output where all latches are read.
     #[tactic(auto, unfolding(crate::specs::Advance::leave_latches))]
     fn leave_latches(&mut self)
-        ensures { self.new ≡ leave_latches self.old }
+        ensures value { self.new ≡ leave_latches self.old }
+        ensures model { self.new.model ≡ self.old.model }
     {
         if self.place == self.model.latch_count {
             self.section = Section::Output;
             self.place = 0;
         }
     }
+}
+
+// A reader whose model has the sizes that a header may give. A struct of its own, since the definitions build readers of any sizes.
+#[derive(Drop)]
+pub struct Reading {
+    pub state: Reader,
+    ghost maximum: { state.model.maximum ≤ 4096 },
+    ghost inputs: { state.model.input_count ≤ 24 },
+    ghost latches: { state.model.latch_count ≤ 32 },
+}
+
+impl Reading {
+    // A literal past the largest variable.
+    fn over(&self, literal: Literal) -> bool
+        ensures { result ≡ over self.now.state literal }
+    {
+        literal.code > 2 * self.state.model.maximum + 1
+    }
+
+    // Refuses a literal that line `at` may not define.
+    #[tactic(auto, unfolding(crate::specs::Advance::fresh_on))]
+    fn check_fresh(&self, at: u32, literal: Literal) -> Result<(), ReadFault>
+        ensures value { result ≡ fresh_on at literal self.now.state }
+        ensures bound { OnOk result (literal.code ≤ 8193) }
+    {
+        if self.over(literal) || literal.code % 2 == 1 || literal.code == 0 {
+            return Err(ReadFault::BadLiteral(at));
+        }
+        if self.state.knows(literal) {
+            return Err(ReadFault::DefinedTwice(at));
+        }
+        Ok(())
+    }
 
     // Goes on to the symbols where all gates are read; by then every next literal and the output have to be defined.
     #[tactic(auto, unfolding(crate::specs::Advance::leave_gates))]
     fn leave_gates(&mut self) -> Result<(), ReadFault>
-        requires { (self.old.model.latch_count ≤ 32) × (self.old.model.input_count ≤ 24) }
-        ensures { after result self.new ≡ leave_gates self.old }
+        ensures { after result self.new.state ≡ leave_gates self.old.state }
     {
-        if self.place == self.model.gate_count {
+        if self.state.place == self.state.model.gate_count {
             self.check_operands()?;
-            self.section = Section::Symbols;
-            self.place = 0;
+            self.state.section = Section::Symbols;
+            self.state.place = 0;
         }
         Ok(())
     }
@@ -151,17 +162,16 @@ impl Reader {
     // Refuses a next literal or an output that no line has defined.
     #[tactic(auto, unfolding(crate::specs::Advance::close_on))]
     fn check_operands(&self) -> Result<(), ReadFault>
-        requires { (self.now.model.latch_count ≤ 32) × (self.now.model.input_count ≤ 24) }
-        ensures { result ≡ close_on self.now }
+        ensures { result ≡ close_on self.now.state }
     {
-        let first = self.model.input_count as u32 + 2;
-        let latches = &self.model.latches[..self.model.latch_count];
+        let first = self.state.model.input_count as u32 + 2;
+        let latches = &self.state.model.latches[..self.state.model.latch_count];
         for (j, latch) in latches.iter().enumerate() {
-            if !self.knows(latch.next) {
+            if !self.state.knows(latch.next) {
                 return Err(ReadFault::Undefined(first + j as u32));
             }
         }
-        if !self.knows(self.model.output) {
+        if !self.state.knows(self.state.model.output) {
             return Err(ReadFault::Undefined(first + latches.len() as u32));
         }
         Ok(())
@@ -169,67 +179,64 @@ impl Reader {
 
     #[tactic(auto, unfolding(crate::specs::Advance::input_on))]
     fn input(&mut self, at: u32, literal: Literal) -> Result<(), ReadFault>
-        requires { (self.old.model.maximum ≤ 4096) × (self.old.place < 24) }
-        ensures { after result self.new ≡ input_on at literal self.old }
+        requires { self.old.state.place < 24 }
+        ensures { after result self.new.state ≡ input_on at literal self.old.state }
     {
         self.check_fresh(at, literal)?;
-        self.defined[literal.variable()] = true;
-        self.model.inputs[self.place] = Input {
+        self.state.defined[literal.variable()] = true;
+        self.state.model.inputs[self.state.place] = Input {
             literal,
             side: Side::Event,
         };
-        self.place += 1;
-        self.leave_inputs();
+        self.state.place += 1;
+        self.state.leave_inputs();
         Ok(())
     }
 
     #[tactic(auto, unfolding(crate::specs::Advance::latch_on))]
     fn latch(&mut self, at: u32, latch: Latch) -> Result<(), ReadFault>
-        requires { (self.old.model.maximum ≤ 4096) × (self.old.place < 32) }
-        ensures { after result self.new ≡ latch_on at latch self.old }
+        requires { self.old.state.place < 32 }
+        ensures { after result self.new.state ≡ latch_on at latch self.old.state }
     {
         if self.over(latch.next) {
             return Err(ReadFault::BadLiteral(at));
         }
         self.check_fresh(at, latch.literal)?;
-        self.defined[latch.literal.variable()] = true;
-        self.model.latches[self.place] = latch;
-        self.place += 1;
-        self.leave_latches();
+        self.state.defined[latch.literal.variable()] = true;
+        self.state.model.latches[self.state.place] = latch;
+        self.state.place += 1;
+        self.state.leave_latches();
         Ok(())
     }
 
     #[tactic(auto, unfolding(crate::specs::Advance::output_on))]
     fn output(&mut self, at: u32, literal: Literal) -> Result<(), ReadFault>
-        requires maximum_bound { self.old.model.maximum ≤ 4096 }
-        requires latch_count_bound { (self.old.model.latch_count ≤ 32) × (self.old.model.input_count ≤ 24) }
-        ensures { after result self.new ≡ output_on at literal self.old }
+        ensures { after result self.new.state ≡ output_on at literal self.old.state }
     {
         if self.over(literal) {
             return Err(ReadFault::BadLiteral(at));
         }
-        self.model.output = literal;
-        self.section = Section::Gates;
-        self.place = 0;
+        self.state.model.output = literal;
+        self.state.section = Section::Gates;
+        self.state.place = 0;
         self.leave_gates()
     }
 
     #[tactic(auto, unfolding(crate::specs::Advance::gate_on))]
     fn gate(&mut self, gates: &mut [Gate], at: u32, gate: Gate) -> Result<(), ReadFault>
-        requires maximum_bound { (self.old.model.maximum ≤ 4096) × (self.old.place < length gates.old) }
-        requires latch_count_bound { (self.old.model.latch_count ≤ 32) × (self.old.model.input_count ≤ 24) }
-        ensures { both result self.new gates.new ≡ gate_on at gate (state_of self.old gates.old) }
+        requires { self.old.state.place < length gates.old }
+        ensures { both result self.new.state gates.new ≡ gate_on at gate (state_of self.old.state gates.old) }
     {
         if self.over(gate.left) || self.over(gate.right) {
             return Err(ReadFault::BadLiteral(at));
         }
         self.check_fresh(at, gate.output)?;
-        if !self.knows(gate.left) || !self.knows(gate.right) {
+        if !self.state.knows(gate.left) || !self.state.knows(gate.right) {
             return Err(ReadFault::Undefined(at));
         }
-        self.defined[gate.output.variable()] = true;
-        gates[self.place] = gate;
-        self.place += 1;
+        self.state.defined[gate.output.variable()] = true;
+        gates[self.state.place] = gate;
+        self.state.place += 1;
         self.leave_gates()
     }
 
@@ -241,30 +248,29 @@ impl Reader {
         position: usize,
         name: &[u8],
     ) -> Result<(), ReadFault>
-        requires { (self.old.model.latch_count ≤ 32) × (self.old.model.input_count ≤ 24) }
-        ensures { after result self.new ≡ symbol_on at kind position name.now self.old }
+        ensures { after result self.new.state ≡ symbol_on at kind position name.now self.old.state }
     {
         match kind {
             SymbolKind::Input => {
-                if position >= self.model.input_count || self.names.inputs[position] {
+                if position >= self.state.model.input_count || self.state.names.inputs[position] {
                     return Err(ReadFault::BadSymbol(at));
                 }
-                self.names.inputs[position] = true;
+                self.state.names.inputs[position] = true;
                 if is_controllable(name) {
-                    self.model.inputs[position].side = Side::Answer;
+                    self.state.model.inputs[position].side = Side::Answer;
                 }
             }
             SymbolKind::Latch => {
-                if position >= self.model.latch_count || self.names.latches[position] {
+                if position >= self.state.model.latch_count || self.state.names.latches[position] {
                     return Err(ReadFault::BadSymbol(at));
                 }
-                self.names.latches[position] = true;
+                self.state.names.latches[position] = true;
             }
             SymbolKind::Output => {
-                if position != 0 || self.names.output {
+                if position != 0 || self.state.names.output {
                     return Err(ReadFault::BadSymbol(at));
                 }
-                self.names.output = true;
+                self.state.names.output = true;
             }
         }
         Ok(())
@@ -273,10 +279,10 @@ impl Reader {
     // Takes line `at` of the file: what it means depends on the section reached.
     #[tactic(auto, unfolding(crate::specs::Advance::advance))]
     pub(crate) fn take(&mut self, gates: &mut [Gate], at: u32, line: Line) -> Result<(), ReadFault>
-        requires { Fits self.old (length gates.old) }
-        ensures { both result self.new gates.new ≡ advance at (content_of line.entry) (state_of self.old gates.old) }
+        requires { Fits self.old.state (length gates.old) }
+        ensures { both result self.new.state gates.new ≡ advance at (content_of line.entry) (state_of self.old.state gates.old) }
     {
-        match (self.section, line) {
+        match (self.state.section, line) {
             (Section::Inputs, Line::One(a)) => self.input(at, Literal { code: a }),
             (Section::Latches, Line::Two(a, b)) => {
                 self.latch(
@@ -303,7 +309,7 @@ impl Reader {
                 name,
             ),
             (Section::Symbols, Line::Comment) => {
-                self.section = Section::Comment;
+                self.state.section = Section::Comment;
                 Ok(())
             }
             (Section::Symbols, _) => Err(ReadFault::BadSymbol(at)),
@@ -315,20 +321,18 @@ impl Reader {
     // Ends the file where line `at` would stand.
     #[tactic(auto, unfolding(crate::specs::Advance::end_on))]
     pub(crate) fn end(&self, at: u32) -> Result<(), ReadFault>
-        requires { self.now.model.input_count ≤ 24 }
-        ensures { result ≡ end_on at self.now }
+        ensures { result ≡ end_on at self.now.state }
     {
-        match self.section {
+        match self.state.section {
             Section::Symbols | Section::Comment => self.check_sides(),
             _ => Err(ReadFault::Malformed(at)),
         }
     }
 
     fn check_sides(&self) -> Result<(), ReadFault>
-        requires { self.now.model.input_count ≤ 24 }
-        ensures { result ≡ sides_on self.now.model }
+        ensures { result ≡ sides_on self.now.state.model }
     {
-        let inputs = &self.model.inputs[..self.model.input_count];
+        let inputs = &self.state.model.inputs[..self.state.model.input_count];
         if on_side(inputs, Side::Event) <= MAX_SIDE && on_side(inputs, Side::Answer) <= MAX_SIDE {
             Ok(())
         } else {

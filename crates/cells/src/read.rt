@@ -15,6 +15,7 @@ impl<'a> Cells<'a> {
         self.numbers.len()
     }
 
+    #[tactic(auto, using(crate::proofs::Stores::used_is))]
     pub fn free(&self) -> usize
         ensures { result ≡ room self.now - cells_of (held self.now) }
     {

@@ -35,6 +35,7 @@ impl<'a> Cells<'a> {
     ghost use Rattle.cells.specs.Held.{held, room};
 
     // Every number is a cell, and no clause is held yet.
+    #[tactic(auto, using(crate::proofs::Codes::clauses_none))]
     pub fn new(numbers: &'a mut [u32]) -> Cells<'a>
         ensures clauses { held result ≡ [] }
         ensures room { room result ≡ length numbers.old }
@@ -47,6 +48,7 @@ impl<'a> Cells<'a> {
     }
 
     // Puts a clause at the end.
+    #[tactic(auto, using(crate::proofs::Stores::used_is, crate::proofs::Stores::count_used))]
     pub fn push(&mut self, clause: &[Literal])
         requires room { length clause.now < room self.old - cells_of (held self.old) }
         requires short { length clause.now ≤ 64 }

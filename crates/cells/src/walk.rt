@@ -31,6 +31,7 @@ impl<'a> Iterator for Clauses<'a> {
 
     ghost remaining = { item_count (λ s. clauses s.cells.now) };
 
+    #[tactic(auto, using(crate::proofs::Codes::parted, crate::proofs::Codes::clauses_none))]
     fn next(&mut self) -> Option<HeldClause<'a>> {
         let (length, rest) = self.cells.split_first()?;
         let (clause, rest) = rest.split_at(*length as usize);

@@ -9,7 +9,8 @@ use crate::question::Question;
 use crate::search::PLACES;
 use sat::{Answer, Solver, fill_front};
 
-// Writes the values of variables up to the largest as bytes; variable 0 is false.
+// Writes the values of variables up to the largest as bytes; variable 0 is false. The splitting solver has the same over its own
+// numbers: one function of a test of variables was longer, by the clauses about the test.
 fn write_values(table: &[bool; PLACES], variables: usize, values: &mut [u8])
     requires few { variables ≤ 20 }
     requires room { variables < length values.old }

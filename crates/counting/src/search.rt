@@ -14,6 +14,7 @@ use std::array;
 pub const PLACES: usize = 21;
 
 // The value of a variable in a number, whose lowest bit is variable 1.
+#[tactic(auto, using(crate::proofs::Numbers::bit_read))]
 fn value_of(number: u32, variable: usize) -> bool
     requires { variable < 21 }
     ensures { result ≡ (nat_lt 0 variable && values_at number variable) }

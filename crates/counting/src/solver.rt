@@ -74,18 +74,21 @@ impl<'a> Solver for Counting<'a> {
         self.cells.room()
     }
 
+    #[tactic(auto, unfolding(sat::specs::Faults::literals_fault, sat::specs::Faults::hold_fault), using(cells::proofs::Ranges::range_push))]
     fn hold(&mut self, clause: &[Literal]) -> Result<(), SolverFault> {
         check_hold(clause, self.variables, self.cells.free())?;
         self.cells.push(clause);
         Ok(())
     }
 
+    #[tactic(auto, using(cells::proofs::Ranges::range_take))]
     fn keep(&mut self, kept: usize) -> Result<(), SolverFault> {
         check_keep(self.cells.count(), kept)?;
         self.cells.cut(kept);
         Ok(())
     }
 
+    #[tactic(auto, unfolding(sat::specs::Faults::literals_fault, sat::specs::Faults::decide_fault))]
     fn decide(
         &mut self,
         assumed: &[Literal],
@@ -102,6 +105,7 @@ impl<'a> Solver for Counting<'a> {
 }
 
 impl<'a> NarrowingSolver for Counting<'a> {
+    #[tactic(auto, unfolding(sat::specs::Faults::literals_fault, sat::specs::Faults::narrow_fault))]
     fn narrow(
         &mut self,
         assumed: &[Literal],

@@ -20,10 +20,10 @@ NoHeader ws = (v c : ℕ) → v ≤ 65535 → c ≤ 65535 → ws ≢ header_of v
 abbrev pub Headed : List ℕ → Header → List ℕ → Type 0
 Headed text h rest = content (lines text) ≡ header_words h ++ content (lines rest)
 
--- a text does not begin with a header: it has no words, or begins with a line that is none
+-- a text does not begin with a header: it has no words, or the first line with words is none
 abbrev pub Headless : DimacsFault → List ℕ → Type 0
 Headless HeaderMissing text = content (lines text) ≡ []
-Headless HeaderMalformed text = (line : List ℕ) × ((ws : List (List ℕ)) × ((content (lines text) ≡ words line ++ ws) × NoHeader (words line)))
+Headless HeaderMalformed text = (line : List ℕ) × ((ws : List (List ℕ)) × ((content (lines text) ≡ words line ++ ws) × (words line ≢ []) × NoHeader (words line)))
 Headless EntryMalformed text = ⊥
 Headless ClauseUnfinished text = ⊥
 Headless CountWrong text = ⊥

@@ -49,7 +49,7 @@ fn header_line(line: &[u8]) -> Option<Header>
 
 // Whether a line says nothing.
 fn is_silent(line: &[u8]) -> bool
-    ensures { MatchBool result (line_content line.now ≡ []) (line_content line.now ≡ words line.now) }
+    ensures { MatchBool result (line_content line.now ≡ []) ((line_content line.now ≡ words line.now) × (words line.now ≢ [])) }
 {
     Words::said(line).next().is_none()
 }

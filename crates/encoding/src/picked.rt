@@ -16,23 +16,21 @@ fn signed_as(literal: Literal, bit: bool) -> Literal
 }
 
 // Puts the literals with the signs of the number's bits.
-pub fn push_signed(table: &mut Literals, literals: &Literals, number: u32)
+pub fn push_signed(table: &mut Literals, literals: &Literals, mut number: u32)
     ensures { table.new ≡ take 64 (table.old ++ with_signs literals.now number) }
 {
-    let mut bits = number;
+    // Bits are taken off the number one by one, since no iterator gives them.
     for literal in literals.as_slice() {
-        table.push(signed_as(*literal, bits % 2 == 1));
-        bits /= 2;
+        table.push(signed_as(*literal, number % 2 == 1));
+        number /= 2;
     }
     prove!(table.as_slice().len() <= MAX_LITERALS);
 }
 
 // Puts those at the bits of the mask, with the signs of the value's bits.
-pub fn push_cared(table: &mut Literals, literals: &Literals, care: u32, value: u32)
+pub fn push_cared(table: &mut Literals, literals: &Literals, mut care: u32, mut value: u32)
     ensures { table.new ≡ take 64 (table.old ++ cared literals.now care value) }
 {
-    let mut care = care;
-    let mut value = value;
     for literal in literals.as_slice() {
         if care % 2 == 1 {
             table.push(signed_as(*literal, value % 2 == 1));

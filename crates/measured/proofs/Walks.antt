@@ -18,6 +18,3 @@ unfolding walk_step
 walk_step_lem r gs i s t m k x em ek ex et =
     et ∙ ap (next_or s) ex ∙ ap (λ n. next_or s (step_of r gs s (i % n) (i / n % k))) em
     ∙ ap (λ n. next_or s (step_of r gs s (i % event_numbers r) (i / event_numbers r % n))) ek
-
-pub walk_none : (r : Record) (gs : List Gate) (count i s : ℕ) → count ≡ i → walked r gs (count - i) i s ≡ s
-walk_none r gs count i s h = let none : count - i ≡ 0 = omega arith in ap (λ n. walked r gs n i s) none

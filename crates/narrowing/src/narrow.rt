@@ -6,6 +6,7 @@ use literal::Literal;
 use sat::{Answer, NarrowingSolver, Solver, SolverFault, check_narrow, fill_front};
 
 impl<S: Solver> NarrowingSolver for Narrowing<S> {
+    #[tactic(auto, unfolding(sat::specs::Faults::literals_fault, sat::specs::Faults::narrow_fault, sat::specs::Faults::decide_fault))]
     fn narrow(
         &mut self,
         assumed: &[Literal],

@@ -1,8 +1,9 @@
 -- A place of the trail is written: what its places mean.
-use Rattle.std.proofs.Common.{◌≡◌, ℕ, ◌+◌, ◌-◌, ◌/◌, ◌%◌, ◌<◌, ◌≤◌, ◌≢◌, List, [], length, get_or, set, sym, ap, ◌∙◌, subst, inl, inr, arith}
-use Rattle.std.proofs.lemmas.List.{get_or-set_same, get_or-set_other, length-set}
+use Rattle.std.proofs.lemmas.Grind.{common_steps}
+use Rattle.std.proofs.Common.{◌≡◌, ℕ, ◌+◌, ◌-◌, ◌/◌, ◌%◌, ◌<◌, ◌≤◌, List, [], length, get_or, set, sym, ap, ◌∙◌, subst, inl, inr, arith}
+use Rattle.std.proofs.lemmas.List.{get_or-set_same, get_or-set_other}
 use Rattle.std.proofs.lemmas.Bool.{cases_eq, cases_lt}
-use Rattle.splitting.specs.Cells.{Holds, Fails, Met}
+use Rattle.splitting.specs.Cells.{Fails, Met}
 use Rattle.cells.specs.Cells.{clauses}
 use Rattle.splitting.specs.Trails.{Kept, True, Models, SeenTrue, OpenTrue, Follows, Denied, Clausal, Reasons, Front, MetBy, FrontBy, Fronts, negation}
 use Rattle.splitting.specs.Searches.{GoodTrail, Writes, Spreads}
@@ -31,12 +32,7 @@ module _ (cells trail reason : List ℕ) (base n l x : ℕ) (a : n < length trai
       record { place = d.place; below = d.below; variable = ap (λ v. v / 2) e ∙ d.variable; sign = λ q. d.sign (ap (λ v. v % 2) (sym e) ∙ q) }
 
   clausal_write : (i y r : ℕ) → i ≤ n → Clausal cells trail i y r → Clausal cells (set trail n l) i y r
-  clausal_write i y r h c = record {
-    number = c.number;
-    starts = c.starts;
-    inside = c.inside;
-    forces = record { below = c.forces.below; others = λ k p q. denied_write i _ h (c.forces.others k p q) };
-  }
+  clausal_write i y r h c = grind (arith, common_steps)
 
   pub reasons_write : Reasons cells trail reason base n → (x % 2 ≡ 0 → 1 ≤ x → Clausal cells trail n l x) → Reasons cells (set trail n l) (set reason n x) base (n + 1)
   reasons_write reasons here i w h z o =
@@ -86,9 +82,7 @@ module _ (cells trail reason : List ℕ) (base n l x : ℕ) (a : n < length trai
       ]
 
   met_by_write : (i : ℕ) (c : List ℕ) → i ≤ n → MetBy trail i c → MetBy (set trail n l) i c
-  met_by_write i c h w =
-      let ne : w.1 ≢ n = omega (arith, w.3) in
-      (w.0, w.1, w.2, w.3, w.4 ∙ sym (get_or-set_other trail n w.1 l 0 ne))
+  met_by_write i c h w = grind (arith, common_steps)
 
   pub front_by_write : (i p : ℕ) → i ≤ n → FrontBy cells trail i p → FrontBy cells (set trail n l) i p
   front_by_write i p h f = record { number = f.number; starts = f.starts; met = λ q w. met_by_write i (get_or (clauses cells) q []) h (f.met q w) }
@@ -108,7 +102,7 @@ module _ (cells trail reason : List ℕ) (base n l x : ℕ) (a : n < length trai
       ]
 
 pub room_of : (t t' : Trail) (n l why : ℕ) → Writes t t' n l why → n < length t.literals.now
-room_of t t' n l why w = omega (arith, t'.kept.room, w.count, ap length w.literals, length-set t.literals.now n l)
+room_of t t' n l why w = grind (arith, common_steps)
 
 -- a literal goes onto the trail at place n, below its end or there
 pub good_write : (cells : List ℕ) (t t' : Trail) (n l why : ℕ) → Writes t t' n l why → GoodTrail cells t → t.base ≤ n → n ≤ t.count
@@ -118,8 +112,8 @@ pub good_write : (cells : List ℕ) (t t' : Trail) (n l why : ℕ) → Writes t 
 good_write cells t t' n l why w g lo hi e f =
     let h = room_of t t' n l why w in
     rw (w.literals, w.reasons, w.count, w.base) (record {
-      reasons = reasons_write cells t.literals.now t.reasons.now t.base n l why h (omega (arith, t.sizes)) lo (λ y p q. g.reasons y p (omega arith)) e;
-      fronts = fronts_write cells t.literals.now t.reasons.now t.base n l why h (omega (arith, t.sizes)) lo (λ y p q. g.fronts y p (omega arith)) f;
+      reasons = reasons_write cells t.literals.now t.reasons.now t.base n l why h (omega (arith, t.literal_room, t.reason_room)) lo (λ y p q. g.reasons y p (omega arith)) e;
+      fronts = fronts_write cells t.literals.now t.reasons.now t.base n l why h (omega (arith, t.literal_room, t.reason_room)) lo (λ y p q. g.fronts y p (omega arith)) f;
     })
 
 -- the same of what follows
@@ -129,7 +123,7 @@ pub follows_at : (cells seen : List ℕ) (t t' : Trail) (n l why : ℕ) → Writ
     → Follows cells t'.literals.now t'.reasons.now seen t'.base t'.count
 follows_at cells seen t t' n l why w lo hi follows e =
     rw (w.literals, w.reasons, w.count, w.base)
-    (follows_write cells t.literals.now t.reasons.now t.base n l why (room_of t t' n l why w) (omega (arith, t.sizes, room_of t t' n l why w)) lo seen (λ y p q. follows y p (omega arith)) e)
+    (follows_write cells t.literals.now t.reasons.now t.base n l why (room_of t t' n l why w) (omega (arith, t.literal_room, t.reason_room, room_of t t' n l why w)) lo seen (λ y p q. follows y p (omega arith)) e)
 
 -- forced places alone are new
 pub follows_same : (cells seen : List ℕ) (t t' : Trail) → Spreads t t'
@@ -173,9 +167,7 @@ front_by cells value trail n p k f =
     record { number = f.number; starts = f.starts; met = λ i h. met_by value trail n (get_or (clauses cells) i []) k (f.met i h) }
 
 met_since : (value trail : List ℕ) (n i : ℕ) (c : List ℕ) → Kept value trail n → i ≤ n → MetBy trail i c → Met value c
-met_since value trail n i c k h w =
-    let s = k.sound w.1 (omega (arith, w.3)) in
-    (w.0, (w.2, (let P : ℕ → Type 0 = λ y. Holds value y in subst P (sym w.4) s)))
+met_since value trail n i c k h w = grind (arith, common_steps)
 
 pub front_since : (cells value trail : List ℕ) (n i p : ℕ) → Kept value trail n → i ≤ n → FrontBy cells trail i p → Front cells value p
 front_since cells value trail n i p k h f =
@@ -188,5 +180,5 @@ front_turned cells t t' i l w g lo hi odd =
     let p = get_or t.reasons.now i 0 / 2 in
     let h = room_of t t' i l 0 w in
     let by : FrontBy cells t'.literals.now i p
-    = rw w.literals (front_by_write cells t.literals.now t.reasons.now t.base i l 0 h (omega (arith, t.sizes)) lo i p (omega arith) (g.fronts i lo hi odd)) in
+    = rw w.literals (front_by_write cells t.literals.now t.reasons.now t.base i l 0 h (omega (arith, t.literal_room, t.reason_room)) lo i p (omega arith) (g.fronts i lo hi odd)) in
     front_since cells t'.value.now t'.literals.now t'.count i p t'.kept (omega (arith, w.count)) by

@@ -1,7 +1,8 @@
 -- From tables and codes to values and literals.
 use Rattle.std.proofs.Common.{◌≡◌, ℕ, zero, suc, ◌+◌, ◌/◌, ◌%◌, ◌<◌, ◌≤◌, Bool, true, false, cond, not, eqb, List, [], ◌∷◌, map, length, get_or, sym, ap, ◌∙◌, inl, inr, arith}
 use Rattle.std.proofs.lemmas.List.{get_or_default, length-map}
-use Rattle.std.proofs.lemmas.Bool.{cases_eq, eq-eqb, ne_eqb, cond-true, cond-false, and_parts, false≢true}
+use Rattle.std.proofs.lemmas.Bool.Decides.{nat_tests}
+use Rattle.std.proofs.lemmas.Bool.{cases_eq, eq-eqb, ne_eqb, cond-true, cond-false, and_parts}
 use Rattle.std.proofs.lemmas.List.Folds.{list_any_at, Any-from_list_any, list_all-map}
 use Rattle.std.proofs.lemmas.List.Sums.{AllPass-from_list_all, list_all-from_AllPass}
 use Rattle.std.proofs.lemmas.List.Elements.{All-from_get_or}
@@ -44,35 +45,12 @@ all_from v ls h =
 
 -- a yes
 
-truth_at : (v : Values) (l : ℕ) → v (l / 2) ≡ eqb (l % 2) 0 → truth v (literal l) ≡ true
-truth_at v l e = elim (cases_eq (l % 2) 1) [
-  | inl o ↦ (cond-true _ _ _ (eq-eqb (l % 2) 1 o) ∙ ap not (e ∙ ne_eqb (l % 2) 0 (omega arith)))
-  | inr z ↦ (cond-false _ _ _ (ne_eqb (l % 2) 1 z) ∙ e ∙ eq-eqb (l % 2) 0 (omega arith))
-]
-
--- a byte and a table's value
-byte_at : (value before after : List ℕ) (V v : ℕ) → Valued value V before after → 1 ≤ v → v ≤ V → byte_values after v ≡ eqb (get_or value v 0) 1
-byte_at value before after V v w p q =
-    let e = w.bytes v p q in
-    elim (cases_eq (get_or value v 0) 1) [
-      | inl o ↦ (eq-eqb (get_or after v 0) 1 (e ∙ cond-true _ _ _ (eq-eqb (get_or value v 0) 1 o)) ∙ sym (eq-eqb (get_or value v 0) 1 o))
-      | inr z ↦ (ne_eqb (get_or after v 0) 1 (λ y. let n : get_or after v 0 ≡ 0 = e ∙ cond-false _ _ _ (ne_eqb (get_or value v 0) 1 z) in omega arith) ∙ sym (ne_eqb (get_or value v 0) 1 z))
-    ]
-
 holds_truth : (value before after : List ℕ) (V l : ℕ) → Valued value V before after → 1 ≤ l / 2 → l / 2 ≤ V → Holds value l → truth (byte_values after) (literal l) ≡ true
-holds_truth value before after V l w p q h =
-    truth_at (byte_values after) l (byte_at value before after V (l / 2) w p q ∙ elim (cases_eq (l % 2) 0) [
-      | inl e ↦ (eq-eqb (get_or value (l / 2) 0) 1 (omega arith) ∙ sym (eq-eqb (l % 2) 0 e))
-      | inr n ↦ (ne_eqb (get_or value (l / 2) 0) 1 (omega arith) ∙ sym (ne_eqb (l % 2) 0 n))
-    ])
+holds_truth value before after V l w p q h = let e = w.bytes (l / 2) p q in grind (arith, nat_tests)
 
 byte_small : (value before after : List ℕ) (V : ℕ) → Valued value V before after → (k : ℕ) → k ≤ V → get_or after k 0 ≤ 1
 byte_small value before after V w zero h = omega (arith, w.zero)
-byte_small value before after V w (suc k) h =
-    elim (cases_eq (get_or value (suc k) 0) 1) [
-      | inl o ↦ omega (arith, w.bytes (suc k) (omega arith) h ∙ cond-true _ _ _ (eq-eqb (get_or value (suc k) 0) 1 o))
-      | inr z ↦ omega (arith, w.bytes (suc k) (omega arith) h ∙ cond-false _ _ _ (ne_eqb (get_or value (suc k) 0) 1 z))
-    ]
+byte_small value before after V w (suc k) h = let e = w.bytes (suc k) (omega arith) h in grind (arith, nat_tests)
 
 pub solved : (s : Splitting) (value before after : List ℕ) (ls : List Literal) → Valued value s.variables before after → AllMet (used_cells s.cells) value
     → in_range s.variables ls ≡ true → ((k : ℕ) → k < length ls → Holds value (get_or (codes ls) k 0)) → Solved s.variables (held s.cells) ls before after
@@ -105,14 +83,8 @@ number_small false = (omega arith, omega arith)
 
 true_by : (b : Bool) (n : ℕ) → cond (eqb (n % 2) 1) (not b) b ≡ true → number b ≡ 1 + n % 2
 unfolding number
-true_by true n e = elim (cases_eq (n % 2) 1) [
-  | inl o ↦ absurd (false≢true (sym (cond-true _ _ _ (eq-eqb (n % 2) 1 o)) ∙ e))
-  | inr z ↦ omega arith
-]
-true_by false n e = elim (cases_eq (n % 2) 1) [
-  | inl o ↦ omega arith
-  | inr z ↦ absurd (false≢true (sym (cond-false _ _ _ (ne_eqb (n % 2) 1 z)) ∙ e))
-]
+true_by true n e = grind (arith, nat_tests)
+true_by false n e = grind (arith, nat_tests)
 
 truth_true : (v : Values) (l : ℕ) → truth v (literal l) ≡ true → True (λ x. number (v x)) l
 truth_true v l e = true_by (v (l / 2)) l e
@@ -139,10 +111,7 @@ marked_to v (l ∷ ls) (m ∷ ms) h a (suc k) b e =
     ]
 
 bit_small : (x y : ℕ) → y ≡ cond (eqb x 0) 0 1 → y ≤ 1
-bit_small x y e = elim (cases_eq x 0) [
-  | inl z ↦ omega (arith, e ∙ cond-true _ _ _ (eq-eqb x 0 z))
-  | inr o ↦ omega (arith, e ∙ cond-false _ _ _ (ne_eqb x 0 o))
-]
+bit_small x y e = grind (arith, nat_tests)
 
 pub refuted : (cells seen before after : List ℕ) (ls : List Literal) → Refutes cells seen (codes ls) → length ls ≤ length after → MarkedBy seen ls before after
     → Refuted (map literals (clauses cells)) ls before after

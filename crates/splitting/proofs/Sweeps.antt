@@ -1,8 +1,8 @@
 -- One turn of a pass over the clauses.
-use Rattle.std.proofs.Common.{◌≡◌, ℕ, suc, ◌+◌, ◌-◌, ◌*◌, ◌/◌, ◌%◌, ◌<◌, ◌≤◌, Bool, true, false, cond, eqb, ◌⊎◌, List, [], length, get_or, set, Some, sym, refl, ap, ◌∙◌, subst, inl, inr, mul-le-mul_right, suc-mul, arith, below_more}
+use Rattle.std.proofs.lemmas.Grind.{common_steps}
+use Rattle.std.proofs.Common.{◌≡◌, ℕ, ◌+◌, ◌-◌, ◌*◌, ◌/◌, ◌%◌, ◌<◌, ◌≤◌, Bool, true, false, cond, eqb, ◌⊎◌, List, [], length, get_or, set, Some, sym, refl, ap, ◌∙◌, subst, inl, inr, arith, below_more}
 use Rattle.std.proofs.lemmas.Bool.{cases_eq, eq-eqb, ne_eqb, cond-true, cond-false}
-use Rattle.std.proofs.lemmas.List.{get_or-set_other}
-use Rattle.splitting.specs.Cells.{Holds, Unset, Fails, Met, Whole, InTable}
+use Rattle.splitting.specs.Cells.{Unset, Fails, Met, Whole}
 use Rattle.cells.specs.Cells.{clauses, Starts, Reads, flat}
 use Rattle.splitting.specs.States.{Forced}
 use Rattle.splitting.specs.Trails.{Kept, Front, FrontBy, AllMet, Clash}
@@ -12,7 +12,7 @@ use Rattle.splitting.specs.declared.propagate.End.TheVariants.{Done, Choose}
 use Rattle.splitting.specs.declared.propagate.Pass.{Pass}
 use Rattle.splitting.specs.declared.propagate.Pass.TheVariants as pass
 use Rattle.cells.proofs.Steps.{ended}
-use Rattle.splitting.proofs.Tables.{holds_push, holds_here, at_set}
+use Rattle.splitting.proofs.Tables.{holds_push}
 use Rattle.splitting.specs.Searches.{GoodTrail, Writes, Spreads}
 use Rattle.splitting.specs.declared.trail.Trail.{Trail}
 use Rattle.splitting.proofs.Entails.{good_write, denied_of, room_of}
@@ -65,30 +65,21 @@ front_push cells value value' l p u e f =
     }
 
 pub forced_met : (value value' c : List ℕ) (l : ℕ) → Forced c value (length c) l → l / 2 < length value → value' ≡ set value (l / 2) (1 + l % 2) → Met value' c
-forced_met value value' c l f t e =
-    (f.place, (f.below, (let P : ℕ → Type 0 = λ x. Holds value' x in subst P (sym f.is) (holds_here value value' l t e))))
+forced_met value value' c l f t e = grind (arith, common_steps)
 
 -- a literal of a clause is in the table
 pub in_table : (cells : List ℕ) (n j k l : ℕ) (c : List ℕ) → Whole cells n → c ≡ get_or (clauses cells) j [] → j < length (clauses cells)
     → k < length c → get_or c k 0 ≡ l → l / 2 < n
-in_table cells n j k l c w e h b s =
-    let P : List ℕ → Type 0 = λ x. InTable x n in
-    omega (arith, ap (λ x. x / 2) s, subst P (sym e) (w.table j h) k b)
+in_table cells n j k l c w e h b s = grind (arith, common_steps)
 
 -- a new place with a reason
 pub new_more : (reason reason' : List ℕ) (n₀ n x : ℕ) → n < length reason → reason' ≡ set reason n x → 1 ≤ x
     → ((j : ℕ) → n₀ ≤ j → j < n → 1 ≤ get_or reason j 0) → (j : ℕ) → n₀ ≤ j → j < n + 1 → 1 ≤ get_or reason' j 0
-new_more reason reason' n₀ n x h e o old j lo hi =
-    let q = ap (λ (t : List ℕ). get_or t j 0) e in
-    elim (at_set reason n x j h) [
-      | inl w ↦ omega (arith, q, w.1)
-      | inr w ↦ omega (arith, q, w.1, old j lo (omega (arith, w.0)))
-    ]
+new_more reason reason' n₀ n x h e o old j lo hi = grind (arith, common_steps)
 
 pub same_more : (trail trail' : List ℕ) (first : List ℕ) (n₀ n l : ℕ) → n₀ ≤ n → trail' ≡ set trail n l
     → ((j : ℕ) → j < n₀ → get_or trail j 0 ≡ get_or first j 0) → (j : ℕ) → j < n₀ → get_or trail' j 0 ≡ get_or first j 0
-same_more trail trail' first n₀ n l h e s j b =
-    ap (λ (t : List ℕ). get_or t j 0) e ∙ get_or-set_other trail n j l 0 (λ q. omega arith) ∙ s j b
+same_more trail trail' first n₀ n l h e s j b = grind (arith, common_steps)
 
 -- a forced literal goes onto the trail
 pub good_forced : (cells : List ℕ) (t t' : Trail) (l j p : ℕ) (c : List ℕ) → Writes t t' t.count l (2 * (p + 1)) → GoodTrail cells t
@@ -114,7 +105,7 @@ spreads_on t₀ t t' l why w some s = record {
   longer = omega (arith, w.count, s.longer);
   same_literals = same_more t.literals.now t'.literals.now t₀.literals.now t₀.count t.count l s.longer w.literals s.same_literals;
   same_reasons = same_more t.reasons.now t'.reasons.now t₀.reasons.now t₀.count t.count why s.longer w.reasons s.same_reasons;
-  forced = λ j lo hi. new_more t.reasons.now t'.reasons.now t₀.count t.count why (omega (arith, t.sizes, room_of t t' t.count l why w)) w.reasons some s.forced j lo (omega (arith, w.count));
+  forced = λ j lo hi. new_more t.reasons.now t'.reasons.now t₀.count t.count why (omega (arith, t.literal_room, t.reason_room, room_of t t' t.count l why w)) w.reasons some s.forced j lo (omega (arith, w.count));
   bound = omega (arith, s.bound, less_pushed t t' l why w);
 }
 
@@ -127,7 +118,7 @@ clash_by cells value trail n p j c k s e h f =
 
 -- the measure of a sweep: what is left of the search, then whether a pass is due, then what is left of this one
 times_less : (a b k : ℕ) → a < b → a * k + k ≤ b * k
-times_less a b k h = let s : suc a * k ≤ b * k = mul-le-mul_right k (omega arith) in omega (arith, s, suc-mul a k)
+times_less a b k h = grind (arith, common_steps)
 
 pub sweep_pushed : (a b size p next d : ℕ) → a < b → p < next → next ≤ size
     → a * (2 * (size + 1)) + (1 * (size + 1) + (size - next)) < b * (2 * (size + 1)) + (d * (size + 1) + (size - p))
@@ -139,12 +130,7 @@ sweep_on a size p next d d' e h r = omega (arith, ap (λ x. x * (size + 1)) e)
 
 -- the place that a decision's reason holds
 pub front_first : (cells trail : List ℕ) (n p why : ℕ) → flat (clauses cells) ≡ cells → (why / 2 ≡ p) ⊎ (why / 2 ≡ 0) → FrontBy cells trail n p → FrontBy cells trail n (why / 2)
-front_first cells trail n p why coded e f =
-    let P : ℕ → Type 0 = λ x. FrontBy cells trail n x in
-    elim e [
-      | inl q ↦ subst P (sym q) f
-      | inr q ↦ subst P (sym q) (record { number = 0; starts = sym coded; met = λ i h. absurd (omega arith) })
-    ]
+front_first cells trail n p why coded e f = grind (arith, common_steps)
 
 -- the end of a pass
 pub pass_ended : (cells value trail : List ℕ) (n front p : ℕ) (s : Pass) (whole : Bool) (e : End) → Some e ≡ pass_end s whole → length cells ≤ p

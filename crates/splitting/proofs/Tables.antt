@@ -1,8 +1,9 @@
 -- The table of values and the trail: what one write to both keeps.
+use Rattle.std.proofs.lemmas.Grind.{common_steps}
 use Rattle.std.proofs.Common.{◌≡◌, ℕ, zero, suc, ◌+◌, ◌-◌, ◌/◌, ◌%◌, ◌<◌, ◌≤◌, ◌≢◌, true, eqb, ◌⊎◌, List, [], ◌∷◌, length, get_or, take, set, sym, refl, ap, ◌∙◌, subst, inl, inr, arith}
-use Rattle.std.proofs.lemmas.List.{get_or-set_same, get_or-set_other, get_or-take, get_or_default, length-set, length-take, length-take-le}
-use Rattle.std.proofs.lemmas.List.Folds.{list_any_at, Any-from_list_any}
-use Rattle.std.proofs.lemmas.Bool.{cases_eq, eq-eqb, eqb-true}
+use Rattle.std.proofs.lemmas.List.{get_or-set_same, get_or-set_other, get_or-take, get_or_default, length-set, length-take}
+use Rattle.std.proofs.lemmas.List.Folds.{Any-from_list_any}
+use Rattle.std.proofs.lemmas.Bool.{eqb-true}
 use Rattle.splitting.specs.Cells.{Holds, Unset}
 use Rattle.splitting.specs.Trails.{zeros, on_trail, Kept}
 
@@ -15,23 +16,14 @@ on_trail_at trail n v e =
     (w.0, (h, ap (λ l. l / 2) q ∙ eqb-true (w.1 / 2) v w.4))
 
 pub on_trail_of : (trail : List ℕ) (n v i : ℕ) → n ≤ length trail → i < n → get_or trail i 0 / 2 ≡ v → on_trail trail n v ≡ true
-on_trail_of trail n v i b h e =
-    list_any_at (λ l. eqb (l / 2) v) (take n trail) i 0 (omega (arith, length-take-le n trail b)) (eq-eqb _ v (ap (λ l. l / 2) (get_or-take n trail i 0 h) ∙ e))
+on_trail_of trail n v i b h e = grind (arith, common_steps)
 
 pub listed_at : (value trail : List ℕ) (n v : ℕ) → Kept value trail n → 1 ≤ get_or value v 0 → (i : ℕ) × ((i < n) × (get_or trail i 0 / 2 ≡ v))
 listed_at value trail n v k h = on_trail_at trail n v (k.listed v h)
 
 -- a place past the last is written
 pub kept_past : (value trail : List ℕ) (n l : ℕ) → Kept value trail n → Kept value (set trail n l) n
-kept_past value trail n l k =
-    let same : (i : ℕ) → i < n → get_or (set trail n l) i 0 ≡ get_or trail i 0 = λ i h. get_or-set_other trail n i l 0 (λ q. omega arith) in
-    record {
-      sound = λ i h. ap (λ x. get_or value (x / 2) 0) (same i h) ∙ k.sound i h ∙ ap (λ x. 1 + x % 2) (sym (same i h));
-      listed = λ v h. let w = listed_at value trail n v k h in on_trail_of (set trail n l) n v w.0 (omega (arith, k.room, length-set trail n l)) w.1.0 (ap (λ x. x / 2) (same w.0 w.1.0) ∙ w.1.1);
-      apart = λ i j a b e. k.apart i j a b (ap (λ x. x / 2) (sym (same i (omega arith))) ∙ e ∙ ap (λ x. x / 2) (same j b));
-      inside = λ i h. omega (arith, k.inside i h, ap (λ x. x / 2) (same i h));
-      room = omega (arith, k.room, length-set trail n l);
-    }
+kept_past value trail n l k = grind (arith, common_steps)
 
 pub zeros_set : (xs : List ℕ) (i x : ℕ) → i < length xs → get_or xs i 0 ≡ 0 → 1 ≤ x → zeros (set xs i x) + 1 ≡ zeros xs
 zeros_set [] i x h e p = absurd (omega arith)
@@ -50,10 +42,7 @@ zeros_unset (suc y ∷ xs) (suc i) h e = let hh : i < length xs = omega arith in
 
 -- what a write leaves, by cases
 pub at_set : (xs : List ℕ) (i x j : ℕ) → i < length xs → ((j ≡ i) × (get_or (set xs i x) j 0 ≡ x)) ⊎ ((j ≢ i) × (get_or (set xs i x) j 0 ≡ get_or xs j 0))
-at_set xs i x j h = elim (cases_eq j i) [
-  | inl e ↦ inl (e, ap (λ k. get_or (set xs i x) k 0) e ∙ get_or-set_same xs i x 0 h)
-  | inr n ↦ inr (n, get_or-set_other xs i j x 0 n)
-]
+at_set xs i x j h = grind (arith, common_steps)
 
 -- a literal in hand whose variable has a value is not one without
 other_var : (value : List ℕ) (a l : ℕ) → Holds value a → Unset value l → a / 2 ≢ l / 2
@@ -91,10 +80,7 @@ module _ (value trail : List ℕ) (n l : ℕ) (k : Kept value trail n) (u : Unse
       ]
 
   inside_push : (i : ℕ) → i < n + 1 → get_or (set trail n l) i 0 / 2 < length (set value (l / 2) (1 + l % 2))
-  inside_push i h = elim (at_set trail n l i push_room) [
-    | inl e ↦ omega (arith, e.1, t, length-set value (l / 2) (1 + l % 2), ap (λ x. x / 2) e.1)
-    | inr e ↦ omega (arith, e.1, k.inside i (omega (arith, e.0, h)), length-set value (l / 2) (1 + l % 2), ap (λ x. x / 2) e.1)
-  ]
+  inside_push i h = grind (arith, common_steps)
 
   pub kept_push : Kept (set value (l / 2) (1 + l % 2)) (set trail n l) (n + 1)
   kept_push = record {
@@ -149,8 +135,7 @@ kept_none value trail z w = record {
 
 -- what held before a literal was made true holds after it
 pub holds_push : (value value' : List ℕ) (l a : ℕ) → Unset value l → value' ≡ set value (l / 2) (1 + l % 2) → Holds value a → Holds value' a
-holds_push value value' l a u e h =
-    ap (λ (t : List ℕ). get_or t (a / 2) 0) e ∙ get_or-set_other value (l / 2) (a / 2) (1 + l % 2) 0 (other_var value a l h u) ∙ h
+holds_push value value' l a u e h = grind (arith, common_steps)
 
 pub holds_here : (value value' : List ℕ) (l : ℕ) → l / 2 < length value → value' ≡ set value (l / 2) (1 + l % 2) → Holds value' l
-holds_here value value' l t e = ap (λ (x : List ℕ). get_or x (l / 2) 0) e ∙ get_or-set_same value (l / 2) (1 + l % 2) 0 t
+holds_here value value' l t e = grind (arith, common_steps)

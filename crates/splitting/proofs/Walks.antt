@@ -1,4 +1,5 @@
 -- Down the trail from a conflict: what each place leaves of what counts.
+use Rattle.std.proofs.lemmas.Grind.{common_steps}
 use Rattle.std.proofs.Common.{◌≡◌, ℕ, ◌+◌, ◌/◌, ◌%◌, ◌<◌, ◌≤◌, Bool, true, false, not, eqb, List, [], length, get_or, set, sym, ap, subst, inl, inr, arith}
 use Rattle.std.proofs.lemmas.List.{get_or-set_other}
 use Rattle.std.proofs.lemmas.Bool.{cases_eq, cases_lt, false≢true, ne_eqb}
@@ -10,7 +11,7 @@ use Rattle.splitting.specs.declared.blame.Blame.TheVariants.{Marked, Every, Plac
 
 -- a denied literal is false where the trail's is true
 denied_false : (m : ℕ → ℕ) (trail : List ℕ) (i l : ℕ) (d : Denied trail i l) → True m (get_or trail d.place 0) → True m l → ⊥
-denied_false m trail i l d t u = d.sign (let e : m (get_or trail d.place 0 / 2) ≡ m (l / 2) = ap m d.variable in omega (arith, e, t, u))
+denied_false m trail i l d t u = grind (arith, common_steps)
 
 same_seen : (seen : List ℕ) (a b : ℕ) → a / 2 ≡ b / 2 → Seen seen b → Seen seen a
 same_seen seen a b e h = let P : ℕ → Type 0 = λ v. 1 ≤ get_or seen v 0 in subst P (sym e) h
@@ -62,10 +63,7 @@ module _ (cells trail reason seen mid : List ℕ) (base p : ℕ) (apart : (j : �
 
   -- what is open below p + 1 is open below p, where p is not
   open_down : (m : ℕ → ℕ) → get_or reason p 0 % 2 ≡ 0 → OpenTrue m trail reason base p → OpenTrue m trail reason base (p + 1)
-  open_down m even c j lo hi odd = elim (cases_eq j p) [
-    | inl e ↦ absurd (omega (arith, ap (λ x. get_or reason x 0 % 2) e))
-    | inr ne ↦ c j lo (omega (arith, ne)) odd
-  ]
+  open_down m even c j lo hi odd = grind (arith, common_steps)
 
   -- a literal that was turned round
   pub turned_step : (b : Blame) (n : ℕ) (is : Bool) → (Seen seen (get_or trail p 0) → is ≡ true) → base ≤ p → get_or reason p 0 ≡ 0
@@ -110,8 +108,7 @@ module _ (cells trail reason seen mid : List ℕ) (base p : ℕ) (apart : (j : �
 -- seen literals of the base stay seen
 pub grows_on : (trail seen mid : List ℕ) (base p : ℕ) → base ≤ p → ((j : ℕ) → j < p → get_or trail j 0 / 2 ≡ get_or trail p 0 / 2 → ⊥)
     → ((v : ℕ) → 1 ≤ get_or seen v 0 → 1 ≤ get_or mid v 0) → Grows trail seen (set mid (get_or trail p 0 / 2) 0) base
-grows_on trail seen mid base p lo apart grows j h s =
-    omega (arith, get_or-set_other mid (get_or trail p 0 / 2) (get_or trail j 0 / 2) 0 0 (apart j (omega arith)), grows (get_or trail j 0 / 2) s)
+grows_on trail seen mid base p lo apart grows j h s = grind (arith, common_steps)
 
 pub grows_then : (trail a b c : List ℕ) (base : ℕ) → Grows trail a b base → Grows trail b c base → Grows trail a c base
 grows_then trail a b c base f g j h s = g j h (f j h s)

@@ -1,8 +1,9 @@
 -- The measure of a search: what is left falls where a place is written at the trail's end, and where an open decision's
 -- place is written again as none.
+use Rattle.std.proofs.lemmas.Grind.{common_steps}
 use Rattle.std.proofs.Common.{◌≡◌, ℕ, zero, suc, ◌+◌, ◌-◌, ◌*◌, ◌%◌, ◌^◌, ◌<◌, ◌≤◌, List, [], ◌∷◌, ◌++◌, length, get_or, take, drop, set, sym, ap, ◌∙◌, subst, suc-mul, arith}
 use native.Mathlib.Nat.{pow-succ'}
-use Rattle.std.proofs.lemmas.List.{length-set, take_more_set, length-take-le, drop_more, take-append-drop, get_or-take, take-take, append-nil}
+use Rattle.std.proofs.lemmas.List.{length-set, take_more_set, length-take-le, append-nil}
 use Rattle.splitting.specs.Trails.{weight, left}
 use Rattle.splitting.specs.Searches.{Writes}
 use Rattle.splitting.specs.declared.trail.Trail.{Trail}
@@ -58,13 +59,7 @@ less_more reason reason' n x h e =
     subst P (sym e) z
 
 split_at : (reason : List ℕ) (i n : ℕ) → i < n → n ≤ length reason → take n reason ≡ take i reason ++ get_or reason i 0 ∷ drop (i + 1) (take n reason)
-split_at reason i n a b =
-    let lt : i < length (take n reason) = omega (arith, length-take-le n reason b) in
-    let e : take i (take n reason) ≡ take i reason = take-take i n reason (omega arith) in
-    let f : get_or (take n reason) i 0 ≡ get_or reason i 0 = get_or-take n reason i 0 a in
-    let g : drop i (take n reason) ≡ get_or (take n reason) i 0 ∷ drop (i + 1) (take n reason) = drop_more (take n reason) i 0 lt in
-    let t : take i (take n reason) ++ drop i (take n reason) ≡ take n reason = take-append-drop i (take n reason) in
-    cc
+split_at reason i n a b = grind (arith, common_steps)
 
 less_closed : (reason reason' : List ℕ) (i n x : ℕ) → i < n → n ≤ length reason → get_or reason i 0 % 2 ≡ 1 → x % 2 ≡ 0
     → reason' ≡ set reason i x → left reason' (i + 1) < left reason n
@@ -83,7 +78,7 @@ less_closed reason reason' i n x a b o s e =
 
 -- a literal more, and an open decision turned round
 pub less_pushed : (t t' : Trail) (l why : ℕ) → Writes t t' t.count l why → left t'.reasons.now t'.count < left t.reasons.now t.count
-less_pushed t t' l why w = rw w.count (less_more t.reasons.now t'.reasons.now t.count why (omega (arith, t.sizes, room_of t t' t.count l why w)) w.reasons)
+less_pushed t t' l why w = rw w.count (less_more t.reasons.now t'.reasons.now t.count why (omega (arith, t.literal_room, t.reason_room, room_of t t' t.count l why w)) w.reasons)
 
 pub less_turned : (t t' : Trail) (i l : ℕ) → Writes t t' i l 0 → i < t.count → get_or t.reasons.now i 0 % 2 ≡ 1 → left t'.reasons.now t'.count < left t.reasons.now t.count
-less_turned t t' i l w h odd = rw w.count (less_closed t.reasons.now t'.reasons.now i t.count 0 h (omega (arith, t.kept.room, t.sizes)) odd (omega arith) w.reasons)
+less_turned t t' i l w h odd = rw w.count (less_closed t.reasons.now t'.reasons.now i t.count 0 h (omega (arith, t.kept.room, t.literal_room, t.reason_room)) odd (omega arith) w.reasons)

@@ -19,7 +19,8 @@ pub struct Trail<'a> {
     pub count: usize,
     pub base: usize,
     ghost kept: { Kept value.now literals.now count },
-    ghost sizes: { length reasons.now ≡ length literals.now },
+    ghost literal_room: { length literals.now ≡ length value.now },
+    ghost reason_room: { length reasons.now ≡ length value.now },
     ghost based: { base ≤ count },
 }
 
@@ -35,8 +36,8 @@ impl<'a> Trail<'a> {
 
     // No literal is true.
     pub fn new(value: &'a mut [u32], literals: &'a mut [u32], reasons: &'a mut [u32]) -> Trail<'a>
-        requires room { length value.old ≤ length literals.old }
-        requires sizes { length reasons.old ≡ length literals.old }
+        requires literal_room { length literals.old ≡ length value.old }
+        requires reason_room { length reasons.old ≡ length value.old }
         ensures { length result.value.now ≡ length value.old }
     {
         value.fill(0);

@@ -1,9 +1,9 @@
 -- How many clauses there are before the exceptions.
-use Rattle.std.proofs.Common.{◌≡◌, ℕ, suc, ◌+◌, ◌*◌, ◌/◌, ◌%◌, ◌^◌, ◌<◌, ◌≤◌, true, cond, List, [], ◌∷◌, length, get_or, drop, sym, refl, ap, ◌∙◌, inl, inr, pow-suc, arith, pow_mono}
+use Rattle.std.proofs.Common.{◌≡◌, ℕ, suc, ◌+◌, ◌*◌, ◌/◌, ◌%◌, ◌^◌, ◌<◌, ◌≤◌, true, cond, List, [], ◌∷◌, length, sum_by, sym, refl, ap, ◌∙◌, inl, inr, pow-suc, arith, pow_mono}
 use lib.Count.{ones, ones_step, ones-le}
 use Rattle.std.specs.List.{flat_map, AllByRecursion}
-use Rattle.std.proofs.lemmas.List.{length-append, length-map, length-take-le, at_drop_more, at_drop_all}
-use Rattle.std.proofs.ByRecursion.{All-get_or}
+use Rattle.std.proofs.lemmas.List.Sums.{sum_by-cons}
+use Rattle.std.proofs.lemmas.List.{length-append, length-map, length-take-le}
 use Rattle.std.proofs.lemmas.Bool.{cases_eq, eq-eqb, ne_eqb}
 use Rattle.literal.specs.declared.Literal.{Literal}
 use Rattle.circuit.specs.declared.record.Gate.{Gate}
@@ -38,6 +38,10 @@ gates_length : (M : ℕ) (gs : List Gate) → length (flat_map (gate_clauses M) 
 gates_length M [] = refl
 gates_length M (g ∷ gs) = length-append (gate_clauses M g) (flat_map (gate_clauses M) gs) ∙ omega (arith, gates_length M gs)
 
+-- a row's clauses
+abbrev row_clauses : Row → ℕ
+row_clauses row = ones row.care + 2
+
 module _ (r : Record) (gs : List Gate) (fit : sound r gs ≡ true) where
   pub base_length : length (candidate_base r gs) ≡ 3 * r.gate_count + 2
   unfolding candidate_base
@@ -58,26 +62,18 @@ module _ (r : Record) (gs : List Gate) (fit : sound r gs ≡ true) where
       let each = length-map (cared (next_literals r) row.care row.value) (implies (positive (entry_variable r.maximum i))) in
       omega (arith, length-append (entry_clauses r row i) (choice_clause r i ∷ []))
 
-  pub few_bits : (row : Row) → RowFits r row → ones row.care ≤ 32
-  few_bits row f =
+  pub rows_bound : (rows : List Row) → AllByRecursion (RowFits r) rows → sum_by row_clauses rows ≤ 34 * length rows
+  rows_bound [] fits = omega arith
+  rows_bound (row ∷ rows) fits =
       let s = soundness r gs fit in
       let more : 2 ^ r.latch_count ≤ 2 ^ 32 = pow_mono s.sizes.latches in
-      ones-le 32 row.care (omega (arith, f.care))
+      let few = ones-le 32 row.care (omega (arith, fits.0.care)) in
+      omega (arith, sum_by-cons row_clauses row rows, rows_bound rows fits.1)
 
-  -- one row more is counted
-  pub count_more : (rows : List Row) (i : ℕ) (d row : Row) (count : ℕ) → i < length rows → row ≡ get_or rows i d → AllByRecursion (RowFits r) rows
-      → count + length (candidate_rows r i (drop i rows)) ≡ length (fixed_clauses r gs rows)
-      → (count + (ones row.care + 2)) + length (candidate_rows r (i + 1) (drop (i + 1) rows)) ≡ length (fixed_clauses r gs rows)
-  count_more rows i d row count l is fits h =
-      let f : RowFits r (get_or rows i d) = All-get_or (RowFits r) rows i d l fits in
-      let step = at_drop_more (λ t. length (candidate_rows r i t)) rows i d l in
-      let one = row_length (get_or rows i d) i f in
-      let same : ones row.care ≡ ones (get_or rows i d).care = ap (λ x. ones x.care) is in
-      omega (arith, length-append (candidate_row r (get_or rows i d) i) (candidate_rows r (i + 1) (drop (i + 1) rows)))
+  rows_length : (rows : List Row) (i : ℕ) → AllByRecursion (RowFits r) rows → length (candidate_rows r i rows) ≡ sum_by row_clauses rows
+  rows_length [] i fits = refl
+  rows_length (row ∷ rows) i fits =
+      omega (arith, sum_by-cons row_clauses row rows, length-append (candidate_row r row i) (candidate_rows r (i + 1) rows), row_length row i fits.0, rows_length rows (i + 1) fits.1)
 
-  pub count_none : (rows : List Row) → (3 * r.gate_count + 2) + length (candidate_rows r 0 rows) ≡ length (fixed_clauses r gs rows)
-  count_none rows = let b = base_length in omega (arith, length-append (candidate_base r gs) (candidate_rows r 0 rows))
-
-  pub count_all : (rows : List Row) (i count : ℕ) → length rows ≤ i → count + length (candidate_rows r i (drop i rows)) ≡ length (fixed_clauses r gs rows)
-      → count ≡ length (fixed_clauses r gs rows)
-  count_all rows i count l h = let z = at_drop_all (λ t. length (candidate_rows r i t)) rows i l in omega arith
+  pub fixed_length : (rows : List Row) → AllByRecursion (RowFits r) rows → length (fixed_clauses r gs rows) ≡ 3 * r.gate_count + 2 + sum_by row_clauses rows
+  fixed_length rows fits = omega (arith, base_length, length-append (candidate_base r gs) (candidate_rows r 0 rows), rows_length rows 0 fits)

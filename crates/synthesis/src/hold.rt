@@ -1,6 +1,6 @@
 // What the two solvers hold when a row comes: the exceptions go, and the row's clauses are added.
 
-ghost use Rattle.std.specs.Prelude.{◌≡◌, ◌+◌, ◌<◌, ◌≤◌, ◌++◌, length, take, None};
+ghost use Rattle.std.specs.Prelude.{◌≡◌, ◌+◌, ◌<◌, ◌≤◌, ◌++◌, length, take, sum_by, count_ones, None};
 ghost use Rattle.std.specs.Result.{result_err};
 ghost use Rattle.std.specs.List.{AllByRecursion};
 ghost use Rattle.sat.specs.Clauses.{cells_of, with_clause, with_clauses};
@@ -13,18 +13,23 @@ use encoding::{hold_answer_row, hold_candidate_row};
 use game::Row;
 use sat::{Solver, SolverFault};
 
-// How many clauses the candidate solver holds before the exceptions: three for each gate, two, and for each row two and
-// one for each bit of its care.
+// The clauses of rows: two for each, and one for each bit of its care.
+fn row_clauses(rows: &[Row]) -> usize
+    requires { length rows.now ≤ 1024 }
+    ensures { result ≡ sum_by (λ row. count_ones row.care + 2) rows.now }
+{
+    rows.iter()
+        .map(|row| row.care.count_ones() as usize + 2)
+        .sum()
+}
+
+// How many clauses the candidate solver holds before the exceptions: three for each gate, two, and the rows'.
 pub fn fixed_clauses(model: &Model<'_>, rows: &[Row]) -> usize
     requires few { length rows.now ≤ 1024 }
     requires fit { AllByRecursion (RowFits model.now.«record».now) rows.now }
     ensures { result ≡ length (fixed_clauses model.now.«record».now model.now.gates.now rows.now) }
 {
-    let mut count = 3 * model.gates() + 2;
-    for row in rows {
-        count += row.care.count_ones() as usize + 2;
-    }
-    count
+    3 * model.gates() + 2 + row_clauses(rows)
 }
 
 // Holds the row at `place` in both solvers, the candidate solver after its first `fixed` clauses.

@@ -32,16 +32,10 @@ returns-then-not-is_empty c =
     let some : 0 < length c.loop-line.rest.now = let k = eqb-false (length c.loop-line.rest.now) 0 (sym c.if-not-is_empty.ensures) in omega arith in
     let h = unfinished_turn _ _ _ _ _ _ c.in_default.ensures.value some refl c.in_ok-take-2.ensures c.loop-line.invariant.0 in
     both_ended c.end.result _ _
-    ∙ ap (λ (x : Result (Unit {0}) ReadFault). and_then x λ _. Ok (state_of c.take-then-not-is_empty.new.self c.take-then-not-is_empty.new.gates)) c.end.ensures ∙ h
+    ∙ ap (λ (x : Result (Unit {0}) ReadFault). and_then x λ _. Ok (state_of c.take-then-not-is_empty.new.self.state c.take-then-not-is_empty.new.gates)) c.end.ensures ∙ h
 
 pub returns : goal.returns
 returns c =
     let h = plain_end _ _ _ _ c.in_default.ensures.value (eqb-true (length c.loop-line.rest.now) 0 (sym c.if-not-is_empty.ensures)) c.loop-line.invariant.0 in
     both_ended c.end-2.result _ _
-    ∙ ap (λ (x : Result (Unit {0}) ReadFault). and_then x λ _. Ok (state_of c.loop-line.reader c.loop-line.gates)) c.end-2.ensures ∙ h
-
-pub end-requires : goal.end-requires
-end-requires c = (keep _ _ _ _ c.in_ok-take-2.ensures c.loop-line.invariant.1).bounds.inputs
-
-pub end-requires-2 : goal.end-requires-2
-end-requires-2 c = c.loop-line.invariant.1.bounds.inputs
+    ∙ ap (λ (x : Result (Unit {0}) ReadFault). and_then x λ _. Ok (state_of c.loop-line.reading.state c.loop-line.gates)) c.end-2.ensures ∙ h

@@ -4,4 +4,4 @@ use Rattle.aiger.proofs.reader.Reader.new.Goals as goal
 
 pub returns : goal.returns
 unfolding start_of
-returns c = c.leave_inputs.ensures ∙ ap leave_inputs (simp (c.blank-model.ensures, c.from.ensures, c.from-2.ensures, c.from-3.ensures))
+returns c = c.leave_inputs.ensures.value ∙ ap leave_inputs (simp (c.blank-model.ensures, c.from.ensures, c.from-2.ensures, c.from-3.ensures))

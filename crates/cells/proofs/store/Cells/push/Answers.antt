@@ -4,11 +4,6 @@ use borrow.Rule.Slice.PartMut.{post_of}
 use Rattle.cells.proofs.Stores.{used_is, count_used, pushed_on}
 use Rattle.cells.proofs.store.Cells.push.Goals as goal
 
-pub write_clause-requires-clause-room : goal.write_clause-requires-clause-room
-write_clause-requires-clause-room c =
-    let s = c.args.self.now in
-    omega (arith, c.requires.room, used_is s, length-take (length s.numbers.now - s.used) (drop s.used s.numbers.now), length-drop s.used s.numbers.now)
-
 pub overflow_add-self-3 : goal.overflow_add-self-3
 overflow_add-self-3 c = let s = c.args.self.now in omega (arith, c.requires.room, used_is s, count_used s)
 

@@ -6,14 +6,6 @@ use Rattle.sat.proofs.Decisions.{decided_no, narrowly_no, narrowed_from, zeroed_
 use Rattle.sat.proofs.Checks.{narrow_none}
 use Rattle.counting.proofs.solver.CountingNarrowingSolver.narrow.Goals as goal
 
-pub invariant_of-question : goal.invariant_of-question
-invariant_of-question c =
-    let p = (narrow_none _ _ _ _ _ (sym c.in_ok-check_narrow.ensures)).0 in record { ranged = p.ranged; short = p.short }
-
-pub answer-found-requires : goal.answer-found-requires
-answer-found-requires c =
-    let p = (narrow_none _ _ _ _ _ (sym c.in_ok-check_narrow.ensures)).0 in record { room = p.values_fit; marks_room = p.marks_fit }
-
 pub narrow-requires : goal.narrow-requires
 narrow-requires c =
     let p = narrow_none _ _ _ _ _ (sym c.in_ok-check_narrow.ensures) in

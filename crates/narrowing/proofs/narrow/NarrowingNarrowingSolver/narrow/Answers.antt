@@ -1,18 +1,11 @@
-use Rattle.std.proofs.Common.{◌≡◌, ◌+◌, ◌^◌, ◌<◌, length, drop, sym, ap, ◌∙◌, subst, arith, rules}
+use Rattle.std.proofs.Common.{◌≡◌, ◌+◌, drop, sym, ap, ◌∙◌, subst, arith, rules}
 use Rattle.sat.specs.Answers.{Narrowed}
 use Rattle.sat.specs.declared.answer.Answer.TheVariants.{No}
 use Rattle.sat.specs.Clauses.{Meaning, Unsatisfiable, marked}
-use Rattle.sat.specs.Faults.{in_range, narrow_fault}
-use Rattle.sat.proofs.Checks.{narrow_none, decide_passes}
+use Rattle.sat.specs.Faults.{in_range}
 use Rattle.sat.proofs.Decisions.{narrowed_from, zeroed_all, zeroed_same, narrowly_no}
-use Rattle.narrowing.proofs.Trying.{never, asked_no, begun}
+use Rattle.narrowing.proofs.Trying.{asked_no, begun}
 use Rattle.narrowing.proofs.narrow.NarrowingNarrowingSolver.narrow.Goals as goal
-
-pub returns-in_err-answer : goal.returns-in_err-answer
-returns-in_err-answer g c =
-    let m = g.S.Solver.meaning c.args.self.now.below in
-    let e = c.in_ok-check_narrow.ensures ∙ ap (λ n. narrow_fault n c.args.assumed.now c.args.first (length c.args.values.now) (length c.args.marks.now)) c.variables-variables.ensures in
-    never _ c.in_err-answer.field-0.0 c.in_err-answer.ensures.refused (decide_passes _ _ _ _ (narrow_none m.variables _ _ _ _ (sym e)).0)
 
 pub drop_each-requires : goal.drop_each-requires
 drop_each-requires g c =
@@ -32,12 +25,6 @@ drop_each-requires g c =
       values_room = omega (arith, ap (λ x. x.variables) same, n.passes.values_fit, c.decide.auto.values);
       marks_room = omega (arith, n.passes.marks_fit, c.decide.auto.marks, b.long);
     }
-
-pub overflow_add-variables : goal.overflow_add-variables
-overflow_add-variables g c =
-    let p = narrow_none _ _ _ _ _ (sym c.in_ok-check_narrow.ensures) in
-    let b : length c.args.values.now < 2 ^ 64 = search rules in
-    record { fits = omega (arith, p.0.values_fit, b) }
 
 pub returns-in_ok-drop_each : goal.returns-in_ok-drop_each
 returns-in_ok-drop_each g c =

@@ -1,7 +1,7 @@
-use Rattle.std.proofs.Common.{◌≡◌, ◌+◌, ◌*◌, ◌/◌, ◌<◌, length, refl, ap, ◌∙◌, arith}
+use Rattle.std.proofs.Common.{◌+◌, ◌*◌, ◌/◌, ◌<◌, length, refl, arith}
 use Rattle.std.proofs.lemmas.Bool.{leb-true}
 use Rattle.splitting.specs.Passes.{due}
-use Rattle.splitting.proofs.Sweeps.{front_past, passing_past, due_open, pass_ended, clash_by, front_push, forced_met, in_table, good_forced, spreads_on, sweep_pushed, sweep_on}
+use Rattle.splitting.proofs.Sweeps.{front_past, passing_past, pass_ended, clash_by, front_push, forced_met, in_table, good_forced, spreads_on, sweep_pushed}
 use Rattle.splitting.proofs.Weights.{less_pushed}
 use Rattle.splitting.proofs.trail.Trail.propagate.Goals as goal
 
@@ -29,11 +29,6 @@ sweep-preserved-in-Satisfied c =
       passing = passing_past c.sweep.pass c.sweep.self.value.now c.sweep.front c.sweep.at _ _ c.past-front.ensures c.sweep.invariant.passing;
       spread = c.sweep.invariant.spread;
     }
-
-pub sweep-smaller-in-Open : goal.sweep-smaller-in-Open
-sweep-smaller-in-Open c =
-    let e : due c.with_open-pass.result ≡ due c.sweep.pass = ap due c.with_open-pass.ensures ∙ due_open c.sweep.pass c.in-Open.literal in
-    sweep_on _ (length c.args.cells.now) c.sweep.at _ (due c.sweep.pass) (due c.with_open-pass.result) e (omega arith) c.clause_at-clause.ensures.bound
 
 pub sweep-smaller-in-Forces : goal.sweep-smaller-in-Forces
 sweep-smaller-in-Forces c =

@@ -1,19 +1,10 @@
-use Rattle.std.proofs.Common.{sym, ◌∙◌, arith}
+use Rattle.std.proofs.Common.{arith}
 use Rattle.std.proofs.lemmas.List.{length-set}
-use Rattle.splitting.proofs.Tables.{push_room, kept_push, kept_past}
+use Rattle.splitting.proofs.Tables.{push_room, kept_push}
 use Rattle.splitting.proofs.trail.Trail.push.Goals as goal
 
 pub bounds-self-self : goal.bounds-self-self
 bounds-self-self c = let t = c.args.self.now in push_room t.value.now t.literals.now t.count c.args.literal t.kept c.requires.unset c.requires.inside
-
-pub invariant_of-self : goal.invariant_of-self
-invariant_of-self c =
-    let t = c.args.self.now in
-    record {
-      kept = kept_past t.value.now t.literals.now t.count c.args.literal t.kept;
-      sizes = t.sizes ∙ sym (length-set t.literals.now t.count c.args.literal);
-      based = t.based;
-    }
 
 pub bounds-self-self-2 : goal.bounds-self-self-2
 bounds-self-self-2 c =
@@ -24,6 +15,7 @@ invariant_of-self-3 c =
     let t = c.args.self.now in
     record {
       kept = kept_push t.value.now t.literals.now t.count c.args.literal t.kept c.requires.unset c.requires.inside;
-      sizes = simp length-set t.sizes;
+      literal_room = simp length-set t.literal_room;
+      reason_room = simp length-set t.reason_room;
       based = omega arith;
     }
