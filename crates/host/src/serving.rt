@@ -27,6 +27,7 @@ fn follow(region: &Region<'_>, exchanges: &mut [Exchange])
     ensures law { Law (arena_in region.now) (rows_in region.now) }
 {
     let mut session = Session::from(open(region));
+    // A loop: a fold would write each exchange and hand the session on in its closure, which is no plainer.
     for exchange in exchanges.iter_mut() {
         let (after, reply) = session.answer(region, exchange.call);
         exchange.reply = Some(reply);
@@ -50,6 +51,7 @@ pub fn serve<C: NarrowingSolver, A: NarrowingSolver>(
     ensures served { Serving (model_arena model.now) (items_of rows.new) exchanges.old exchanges.new result }
     ensures alike { ServedAlike (model_arena model.now) }
 {
+    // A copy, since the run holds all that it is lent equally long.
     let host = *model;
     let (verdict, count) = run(model, candidate, answer, rows, exceptions, work)?;
     match verdict {

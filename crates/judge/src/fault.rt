@@ -41,6 +41,7 @@ impl JudgeFault {
     }
 }
 
+// The conversions of `?` are written by hand, since a derive promises nothing of the fault that they make.
 impl From<ReadFault> for JudgeFault {
     ghost from_gives = { λ f r. r ≡ Read f };
 
@@ -73,7 +74,7 @@ impl From<AllocError> for JudgeFault {
     }
 }
 
-// The reason in words.
+// The reason in words, by hand since a derive promises nothing of them.
 impl fmt::Display for JudgeFault {
     ghost output = { λ f. Some (reason_of f) };
 

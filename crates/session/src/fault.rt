@@ -14,6 +14,7 @@ pub enum SessionFault {
 }
 
 impl SessionFault {
+    // The numbers as others read them; a cast of discriminants is no plainer.
     pub fn number(self) -> u8
         ensures { result ≡ session_number self }
     {
@@ -24,7 +25,7 @@ impl SessionFault {
     }
 }
 
-// The reason in words.
+// The reason in words, by hand since a derive promises nothing of them.
 impl fmt::Display for SessionFault {
     ghost output = { λ f. Some (session_reason f) };
 
