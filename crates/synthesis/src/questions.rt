@@ -38,6 +38,7 @@ pub fn find_pair<C: Solver>(
 }
 
 // The row whose care is the marked ones of the state's literals, which come after the event's.
+#[tactic(auto, using(crate::proofs::Sizing::bounds))]
 fn row_from(model: &Model<'_>, pair: Pair, marks: &[u8]) -> Row
     requires { length marks.now ≡ 64 }
     ensures { result ≡ row_from model.now.«record».now pair.state pair.event marks.now }
@@ -74,14 +75,16 @@ pub fn find_answer<A: NarrowingSolver>(
 }
 
 // The exception whose cares are the marked ones of the state's and the event's literals, which come after the first ones.
+#[tactic(auto, using(crate::proofs::Sizing::bounds))]
 fn exception_from(model: &Model<'_>, pair: Pair, marks: &[u8]) -> Exception
     requires { length marks.now ≡ 64 }
     ensures { result ≡ exception_from model.now.«record».now pair.state pair.event marks.now }
 {
+    let count = model.event_inputs();
     let states = model.answer_inputs() + 1;
     let events = states + model.latches();
     let state_care = care_of(&marks[states..events]);
-    let event_care = care_of(&marks[events..events + model.event_inputs()]);
+    let event_care = care_of(&marks[events..events + count]);
     Exception {
         state_care,
         state_value: pair.state & state_care,

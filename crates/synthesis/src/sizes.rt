@@ -47,15 +47,17 @@ pub struct Sizes {
 }
 
 impl Sizes {
+    #[tactic(auto, using(crate::proofs::Sizing::bounds, crate::proofs::Sizing::product))]
     fn candidate_need(&self, model: &Model<'_>) -> Room
         requires rows { self.now.rows ≤ 1024 }
         requires exceptions { self.now.exceptions ≤ 4096 }
         ensures { result ≡ candidate_need model.now.«record».now self.now }
     {
         let latches = model.latches();
+        let of_exception = latches + model.event_inputs() + 1;
         let cells = 10 * model.gates()
             + (4 * latches + 5) * self.rows
-            + (latches + model.event_inputs() + 1) * self.exceptions
+            + of_exception * self.exceptions
             + 8;
         let variables = model.maximum() as usize + 2 * self.rows + 2;
         Room { variables, cells }
