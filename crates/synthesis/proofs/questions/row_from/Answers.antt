@@ -6,4 +6,4 @@ pub returns : goal.returns
 returns c =
     let b = bounds c.args.model.now in
     row_of c.args.model.now.«record».now c.args.pair.state c.args.pair.event c.args.marks.now c.event_inputs-events.result c.latches.result c.care_of-care.result
-    c.event_inputs-events.ensures c.latches.ensures b.latches c.care_of-care.ensures
+    c.event_inputs-events.ensures.value c.latches.ensures.value b.latches c.care_of-care.ensures
