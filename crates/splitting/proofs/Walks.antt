@@ -105,6 +105,12 @@ module _ (cells trail reason seen mid : List ℕ) (base p : ℕ) (apart : (j : �
   forced_step (Place t) n j even f marked old at =
       (blamed_on (Place t) (Place t) old (λ m c. c) (λ m d st c q. forced_true j f marked m d st q), (at.0, at.1, at.2, omega (arith, at.3)))
 
+  -- one that is not seen
+  pub unseen_step : (b : Blame) (n j : ℕ) → get_or reason p 0 % 2 ≡ 0 → Forces cells trail p j (get_or trail p 0) → (Seen seen (get_or trail p 0) → ⊥)
+      → Blamed b cells trail reason seen base (p + 1) → Placed b reason base n (p + 1)
+      → Blamed b cells trail reason (set mid (get_or trail p 0 / 2) 0) base p × Placed b reason base n p
+  unseen_step b n j even f none old at = forced_step b n j even f (λ s. absurd (none s)) old at
+
 -- seen literals of the base stay seen
 pub grows_on : (trail seen mid : List ℕ) (base p : ℕ) → base ≤ p → ((j : ℕ) → j < p → get_or trail j 0 / 2 ≡ get_or trail p 0 / 2 → ⊥)
     → ((v : ℕ) → 1 ≤ get_or seen v 0 → 1 ≤ get_or mid v 0) → Grows trail seen (set mid (get_or trail p 0 / 2) 0) base

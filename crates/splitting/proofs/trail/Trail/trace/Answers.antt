@@ -2,7 +2,7 @@ use Rattle.std.proofs.Common.{◌≡◌, ℕ, ◌+◌, ◌-◌, ◌/◌, ◌<◌
 use Rattle.cells.specs.Cells.{Starts}
 use Rattle.splitting.specs.Blames.{Blamed, Placed}
 use Rattle.splitting.specs.Trails.{Seen}
-use Rattle.splitting.proofs.Walks.{clash_blamed, open_step, turned_step, forced_step, grows_on, grows_then, is_seen}
+use Rattle.splitting.proofs.Walks.{clash_blamed, open_step, turned_step, forced_step, unseen_step, grows_on, grows_then, is_seen}
 use Rattle.splitting.proofs.trail.Trail.trace.Goals as goal
 use Rattle.splitting.proofs.trail.Trail.trace.Goals.{in-Open, in-Turned, in-Forced, in-Forced+else-is_seen}
 
@@ -60,7 +60,7 @@ loop-i-preserved c =
           rw (w.seen-is, w.blame-is) (record { after = s.0; placed = s.1; grows = more mid w.see-in-Forced.ensures.grows }))
       | in-Forced+else-is_seen w ↦
           (let r = c.requires.good.reasons p lo hi w.in-Forced.ensures.0 w.in-Forced.ensures.1 in
-          let s = forced_step cells trail reason seen seen base p apart stays b n r.number w.in-Forced.ensures.0 r.forces
-          (λ q. absurd (omega (arith, q, w.if-is_seen.false))) old at in
+          let s = unseen_step cells trail reason seen seen base p apart stays b n r.number w.in-Forced.ensures.0 r.forces
+          (λ q. omega (arith, q, w.if-is_seen.false)) old at in
           rw (w.seen-is, w.blame-is) (record { after = s.0; placed = s.1; grows = more seen stays }))
     ]
