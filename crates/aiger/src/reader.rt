@@ -240,6 +240,7 @@ impl Reading {
         self.leave_gates()
     }
 
+    // An arm for each kind: with one `&mut` to the name's place, picked by the kind, the proof does not close.
     #[tactic(auto, unfolding(crate::specs::Advance::symbol_on))]
     fn symbol(
         &mut self,

@@ -14,6 +14,7 @@ const WIDTH: usize = 16;
 // The literals that values make true, on `v` lines, with 0 after the last.
 pub fn values_text(heap: Global, values: &[u8]) -> Result<String, AllocError> {
     let mut text = String::from_str(heap, "v")?;
+    // The place is the variable, which is printed.
     for (variable, value) in values.iter().enumerate().skip(1) {
         if variable > 1 && variable % WIDTH == 1 {
             text.push_str("\nv")?;

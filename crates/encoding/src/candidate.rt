@@ -2,7 +2,8 @@
 
 ghost use Rattle.std.specs.Prelude.{◌≡◌, ◌+◌, ◌<◌, ◌≤◌, [], ◌∷◌, map, is_ok, Some};
 ghost use Rattle.std.specs.Result.{result_err};
-ghost use Rattle.encoding.specs.Clauses.{implies, outside_clause, entry_clauses, choice_clause, candidate_base, candidate_row, exception_clause};
+ghost use Rattle.encoding.specs.Literals.{next_literals, cared};
+ghost use Rattle.encoding.specs.Clauses.{implies, outside_clause, candidate_base, candidate_row, exception_clause};
 ghost use Rattle.encoding.specs.Holding.{Held, Whole};
 ghost use Rattle.encoding.specs.Laws.{answer_variables, candidate_variables, candidate_base_cells, candidate_row_cells, exception_cells};
 
@@ -41,9 +42,12 @@ pub fn hold_candidate_row<S: Solver>(
     if place >= MAX_PLACES {
         return Err(SolverFault::VariableOutOfRange);
     }
+    let variables = Variables::of(model);
+    let entry = variables.entry(place);
     hold_outside(model, solver, row)?;
-    hold_entries(model, solver, row, place)?;
-    hold_choice(model, solver, place)
+    hold_entries(model, solver, row, entry)?;
+    let after = variables.due(place + 1).negation();
+    solver.hold(&[after, entry, variables.due(place)])
 }
 
 fn hold_outside<S: Solver>(model: &Model<'_>, solver: &mut S, row: Row) -> Result<(), SolverFault>
@@ -53,18 +57,18 @@ fn hold_outside<S: Solver>(model: &Model<'_>, solver: &mut S, row: Row) -> Resul
     solver.hold(clause.as_slice())
 }
 
+// Holds that the next state is in the row where the entry is true.
 fn hold_entries<S: Solver>(
     model: &Model<'_>,
     solver: &mut S,
     row: Row,
-    place: usize,
+    entry: Literal,
 ) -> Result<(), SolverFault>
-    requires { place < 1024 }
-    ensures { Held (S.Solver.meaning solver.old) (entry_clauses model.now.«record».now row place) (S.Solver.meaning solver.new) (result_err result) }
+    ensures { Held (S.Solver.meaning solver.old) (map (implies entry) (cared (next_literals model.now.«record».now) row.care row.value)) (S.Solver.meaning solver.new) (result_err result) }
 {
     let mut inside = Literals::none();
     push_cared(&mut inside, &next_of(model), row.care, row.value);
-    hold_each(solver, Variables::of(model).entry(place), inside.as_slice())
+    hold_each(solver, entry, inside.as_slice())
 }
 
 // Holds that each literal is true where the guard is.
@@ -79,19 +83,6 @@ fn hold_each<S: Solver>(
         solver.hold(&[guard.negation(), *literal])?;
     }
     Ok(())
-}
-
-fn hold_choice<S: Solver>(
-    model: &Model<'_>,
-    solver: &mut S,
-    place: usize,
-) -> Result<(), SolverFault>
-    requires { place < 1024 }
-    ensures { Held (S.Solver.meaning solver.old) (choice_clause model.now.«record».now place ∷ []) (S.Solver.meaning solver.new) (result_err result) }
-{
-    let variables = Variables::of(model);
-    let after = variables.due(place + 1).negation();
-    solver.hold(&[after, variables.entry(place), variables.due(place)])
 }
 
 // Holds that the exception does not cover the state and the event.

@@ -24,6 +24,7 @@ pub struct Exception {
 }
 
 impl Exception {
+    // A constant and no Default: an array literal repeats a constant.
     pub const BLANK: Exception = Exception {
         state_care: 0,
         state_value: 0,

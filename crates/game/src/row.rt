@@ -16,6 +16,7 @@ pub struct Row {
 }
 
 impl Row {
+    // A constant and no Default: an array literal repeats a constant.
     pub const BLANK: Row = Row {
         care: 0,
         value: 0,

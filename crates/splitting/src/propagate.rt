@@ -75,7 +75,7 @@ fn past(front: usize, at: usize, next: usize) -> usize
 impl<'a> Trail<'a> {
     // Goes over the clauses from `front` on, again and again. A clause before the first one that is not satisfied is
     // never read again before a backtrack, and a pass without a change is the last.
-    pub fn propagate(&mut self, cells: &[u32], front: usize) -> Spread
+    pub fn propagate(&mut self, cells: &[u32], mut front: usize) -> Spread
         requires whole { Whole cells.now (length self.old.value.now) }
         requires good { GoodTrail cells.now self.old }
         requires front { Front cells.now self.old.value.now front }
@@ -84,7 +84,6 @@ impl<'a> Trail<'a> {
         ensures spread { Spreads self.old self.new }
         ensures end { Ended result.end cells.now self.new.value.now self.new.literals.now self.new.count }
     {
-        let mut front = front;
         let mut at = front;
         let mut pass = Pass::Clean;
         // No `for`: the place goes back to the front after a change, and each clause says how far the next is.

@@ -13,6 +13,7 @@ use literal::Literal;
 
 impl<'a> Splitting<'a> {
     // Whether some values satisfy every clause and make every assumption true; they are then in the table.
+    #[tactic(auto, using(crate::proofs::Ranges::whole_of, crate::proofs::Ranges::range_table, crate::proofs::Givens::holds_assumed))]
     pub(crate) fn solve(&mut self, assumed: &[Literal]) -> bool
         requires { in_range self.old.variables assumed.now ≡ true }
         ensures same { meaning_of self.new ≡ meaning_of self.old }

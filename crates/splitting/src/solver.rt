@@ -64,12 +64,14 @@ impl<'a> Solver for Splitting<'a> {
         self.cells.room()
     }
 
+    #[tactic(auto, using(cells::proofs::Ranges::range_push, crate::proofs::Refusals::hold_accepts))]
     fn hold(&mut self, clause: &[Literal]) -> Result<(), SolverFault> {
         check_hold(clause, self.variables, self.cells.free())?;
         self.cells.push(clause);
         Ok(())
     }
 
+    #[tactic(auto, using(cells::proofs::Ranges::range_take))]
     fn keep(&mut self, kept: usize) -> Result<(), SolverFault> {
         check_keep(self.cells.count(), kept)?;
         self.cells.cut(kept);
@@ -77,6 +79,7 @@ impl<'a> Solver for Splitting<'a> {
     }
 
     // On no the assumptions are marked that some conflict came from.
+    #[tactic(auto, using(crate::proofs::Refusals::decide_accepts))]
     fn decide(
         &mut self,
         assumed: &[Literal],

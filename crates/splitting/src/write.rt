@@ -1,50 +1,32 @@
 // What a decision writes: values on yes, marks on no.
 
-ghost use Rattle.std.specs.Prelude.{◌≡◌, ◌-◌, ◌<◌, ◌≤◌, true, length};
+ghost use Rattle.std.specs.Prelude.{◌≡◌, ◌<◌, ◌≤◌, true, length};
 ghost use Rattle.sat.specs.Faults.{in_range};
-ghost use Rattle.cells.specs.Cells.{codes};
-ghost use Rattle.splitting.specs.Cells.{InTable};
 ghost use Rattle.splitting.specs.Written.{Valued, MarkedBy};
 
 use crate::solver::Splitting;
 use literal::Literal;
 
-// Writes a byte for each variable, 1 where it is true, and 0 into byte 0.
-fn write_values(value: &[u32], variables: usize, values: &mut [u8])
-    requires table { variables ≤ length value.now - 1 }
-    requires room { variables < length values.old }
-    ensures { Valued value.now variables values.old values.new }
-{
-    values[0] = 0;
-    for variable in 1..=variables {
-        values[variable] = u8::from(value[variable] == 1);
-    }
-}
-
-// Marks each assumption with 1 whose variable is seen, and each other with 0.
-fn write_marks(seen: &[u32], assumed: &[Literal], marks: &mut [u8])
-    requires inside { InTable (codes assumed.now) (length seen.now) }
-    requires room { length assumed.now ≤ length marks.old }
-    ensures { MarkedBy seen.now assumed.now marks.old marks.new }
-{
-    for (k, literal) in assumed.iter().enumerate() {
-        marks[k] = u8::from(seen[literal.variable()] != 0);
-    }
-}
-
 impl<'a> Splitting<'a> {
+    // Writes a byte for each variable, 1 where it is true, and 0 into byte 0.
     pub(crate) fn write(&self, values: &mut [u8])
         requires { self.now.variables < length values.old }
         ensures { Valued self.now.trail.value.now self.now.variables values.old values.new }
     {
-        write_values(self.trail.value, self.variables, values);
+        values[0] = 0;
+        for variable in 1..=self.variables {
+            values[variable] = u8::from(self.trail.value[variable] == 1);
+        }
     }
 
+    // Marks each assumption with 1 whose variable is seen, and each other with 0.
     pub(crate) fn mark(&self, assumed: &[Literal], marks: &mut [u8])
         requires inside { in_range self.now.variables assumed.now ≡ true }
         requires room { length assumed.now ≤ length marks.old }
         ensures { MarkedBy self.now.seen.now assumed.now marks.old marks.new }
     {
-        write_marks(self.seen, assumed, marks);
+        for (k, literal) in assumed.iter().enumerate() {
+            marks[k] = u8::from(self.seen[literal.variable()] != 0);
+        }
     }
 }

@@ -5,7 +5,8 @@ use Rattle.std.proofs.lemmas.Bool.{both_ways}
 use Rattle.std.proofs.lemmas.List.{length-take, length-set, length_push, append-nil}
 use Rattle.circuit.specs.declared.record.Gate.{Gate}
 use Rattle.circuit.specs.declared.record.Record.{Record}
-use Rattle.sat.specs.Clauses.{Meaning, cells_of}
+use Rattle.sat.specs.Clauses.{Meaning, cells_of, with_clauses}
+use Rattle.encoding.specs.Holding.{Whole}
 use Rattle.roll.specs.declared.roll.Roll.{Roll}
 use Rattle.roll.specs.declared.fault.RollFault.{RollFault}
 use Rattle.roll.specs.Rolls.{items_of, table_of, Grown, NoPlace, Appended}
@@ -17,7 +18,7 @@ use Rattle.game.proofs.Covered.{covered-++}
 use Rattle.game.proofs.Models.{playable}
 use Rattle.game.proofs.Runs.{rows_push, exceptions_none, exceptions_push, lost_run}
 use Rattle.encoding.specs.Clauses.{answer_row, answer_clauses, candidate_row, exception_clause, candidate_clauses}
-use Rattle.encoding.specs.Laws.{candidate_row_cells, candidate_base_cells, answer_row_cells, exception_cells}
+use Rattle.encoding.specs.Laws.{candidate_variables, candidate_row_cells, candidate_base_cells, answer_row_cells, exception_cells}
 use Rattle.encoding.proofs.Sizes.{answer_fits, candidate_fits}
 use Rattle.synthesis.specs.Held.{fixed_clauses}
 use Rattle.synthesis.specs.declared.fault.RunFault.TheVariants.{RowsFull, ExceptionsFull}
@@ -53,7 +54,7 @@ module _ (l : Lent) (room : Roomy l) (items : List Row) (xs : List Exception) wh
   abbrev gs : List Gate
   gs = gates_of l
 
-  pub fixed_cells : length items ≤ places_of l → cells_of (fixed_clauses r gs items) ≤ candidate_base_cells r + candidate_row_cells r * length items
+  fixed_cells : length items ≤ places_of l → cells_of (fixed_clauses r gs items) ≤ candidate_base_cells r + candidate_row_cells r * length items
   fixed_cells h =
       let f = ((candidate_fits r gs l.model.fit l.candidate.variables (omega (arith, room.candidate_variables)) (places_of l) room.candidate_variables).all items [] h).few in
       let e : cells_of (candidate_clauses r gs items []) ≡ cells_of (fixed_clauses r gs items) = ap cells_of (candidate_fixed r gs items [] ∙ append-nil (fixed_clauses r gs items)) in
@@ -73,12 +74,21 @@ module _ (l : Lent) (room : Roomy l) (items : List Row) (xs : List Exception) wh
       omega (arith, room.answer_cells)
 
   -- and for one exception more
-  pub exception_cells_lem : length items ≤ places_of l → length xs < exception_places_of l → cells_of (candidate_clauses r gs items xs) + exception_cells r ≤ l.candidate.cells
+  exception_cells_lem : length items ≤ places_of l → length xs < exception_places_of l → cells_of (candidate_clauses r gs items xs) + exception_cells r ≤ l.candidate.cells
   exception_cells_lem h k =
       let f = ((candidate_fits r gs l.model.fit l.candidate.variables (omega (arith, room.candidate_variables)) (places_of l) room.candidate_variables).all items xs h).few in
       let p = as_many (candidate_row_cells r) (length items) (places_of l) h in
       let q = one_more (exception_cells r) (length xs) (exception_places_of l) k in
       omega (arith, room.candidate_cells)
+
+-- so an exception's clause is held whole
+pub exception_whole : (l : Lent) → Roomy l → Turning l → (x : Exception) (xs' : Roll Exception) → Grown l.exceptions x xs' → (m : Meaning) (ok : Bool)
+    → Whole (candidate_variables (record_of l) 0) (exception_cells (record_of l)) l.candidate (exception_clause (record_of l) x ∷ []) m ok
+    → (ok ≡ true) × (m ≡ with_clauses l.candidate (l.candidate.clauses ++ (exception_clause (record_of l) x ∷ [])))
+exception_whole l room t x xs' more m ok whole =
+    let e = ap cells_of t.candidate in
+    let cells = exception_cells_lem l room (items_of l.rows) (items_of l.exceptions) (used_few l.rows) more.free in
+    whole (omega (arith, room.candidate_variables)) (omega arith)
 
 module _ (l : Lent) (t : Turning l) where
   -- every place is used and a row is due

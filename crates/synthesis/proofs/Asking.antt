@@ -14,17 +14,16 @@ use Rattle.circuit.specs.Step.{low_bit}
 use Rattle.circuit.proofs.Soundness.{soundness}
 use Rattle.sat.specs.declared.answer.Answer.{Answer as Reply}
 use Rattle.sat.specs.declared.answer.Answer.TheVariants.{Yes, No}
-use Rattle.sat.specs.Answers.{Solved, Refuted, Narrowed, DecidedNarrowly}
-use Rattle.sat.specs.Clauses.{Clause, all_true, byte_values, Unsatisfiable}
+use Rattle.sat.specs.Answers.{Solved, Narrowed, DecidedNarrowly}
+use Rattle.sat.specs.Clauses.{Clause, all_true, byte_values}
 use Rattle.sat.specs.Faults.{in_range, decide_fault, narrow_fault}
 use Rattle.sat.proofs.Checks.{decide_passes, narrow_passes}
 use Rattle.sat.proofs.Decisions.{yes_is_not_no}
 use Rattle.game.specs.declared.exception.Exception.{Exception}
-use Rattle.game.specs.declared.exception.Pair.{Pair}
 use Rattle.game.specs.declared.row.Row.{Row}
-use Rattle.synthesis.specs.Asked.{FoundPair, FoundAnswer, NoAnswer, NoCandidate}
-use Rattle.sat.proofs.Laws.{range_from, range_parts, none_whole}
-use Rattle.encoding.specs.Literals.{due_literal, signed, with_signs, latch_literals, side_literals, state_literals, event_literals, answer_literals, care_of, state_in, event_in, answer_in}
+use Rattle.synthesis.specs.Asked.{FoundAnswer, NoAnswer, NoCandidate}
+use Rattle.sat.proofs.Laws.{range_from, range_parts}
+use Rattle.encoding.specs.Literals.{due_literal, signed, with_signs, latch_literals, side_literals, state_literals, event_literals, answer_literals, care_of, answer_in}
 use Rattle.encoding.proofs.Parts.{Own, latches_own, sides_own}
 use Rattle.encoding.proofs.Sizes.{negation_variable}
 use Rattle.synthesis.specs.Narrow.{section, row_asked, row_from, exception_asked, first_asked, exception_from}
@@ -210,16 +209,3 @@ exception_of r s e ms k L m sc ec p q w few fewer h i =
     y ∙ ap (λ o. care_of (section ((o + 1) + L) m ms)) p ∙ ap (λ n. care_of (section (first_asked r + n) m ms)) q ∙ ap (λ n. care_of (section (first_asked r + r.latch_count) n ms)) w in
     ap (λ t. record { state_care = t; state_value = bit_and s t; event_care = ec; event_value = bit_and e ec }) a
     ∙ ap (λ t. record { state_care = care_of (section (first_asked r) r.latch_count ms); state_value = bit_and s (care_of (section (first_asked r) r.latch_count ms)); event_care = t; event_value = bit_and e t }) b
-
-pub found_pair : (r : Record) (V : ℕ) (cs : List Clause) (n : ℕ) (d : Literal) (vs vs' : List ℕ) (p : Pair) → Solved V cs (d ∷ []) vs vs' → n ≤ 1024 → d ≡ due_literal r (min n 1024)
-    → p.state ≡ state_in r (byte_values vs') → p.event ≡ event_in r (byte_values vs') → FoundPair r n cs p
-found_pair r V cs n d vs vs' p y small dd s e =
-    let same : d ≡ due_literal r n = dd ∙ ap (due_literal r) (omega arith) in
-    record { values = byte_values vs'; clauses = y.clauses; due = ap (λ l. all_true (byte_values vs') (l ∷ [])) (sym same) ∙ y.assumptions; state = s; event = e }
-
-pub no_pair : (r : Record) (cs : List Clause) (n : ℕ) (d : Literal) (ms ms' : List ℕ) → Refuted cs (d ∷ []) ms ms' → n ≤ 1024 → d ≡ due_literal r (min n 1024)
-    → Unsatisfiable cs (due_literal r n ∷ [])
-no_pair r cs n d ms ms' x small dd =
-    let same : d ≡ due_literal r n = dd ∙ ap (due_literal r) (omega arith) in
-    let P : Literal → Type 0 = λ l. Unsatisfiable cs (l ∷ []) in
-    subst P same (none_whole cs (d ∷ []) ms' x.none)

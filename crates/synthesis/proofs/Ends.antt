@@ -1,13 +1,11 @@
 -- What is left when a run ends.
-use Rattle.std.proofs.Common.{◌≡◌, ℕ, suc, ◌-◌, ◌<◌, ◌≤◌, Bool, true, false, cond, List, [], ◌∷◌, ◌++◌, length, set, replicate, is_ok, Some, None, Ok, Err, Option, Result, sym, refl, ap, ◌∙◌, subst, arith}
+use Rattle.std.proofs.Common.{◌≡◌, ℕ, suc, ◌-◌, ◌<◌, ◌≤◌, cond, List, [], ◌∷◌, ◌++◌, length, set, replicate, is_ok, Some, None, Ok, Err, Option, Result, sym, refl, ap, ◌∙◌, arith}
 use Rattle.std.proofs.lemmas.List.{append_assoc, length_push, set_at}
 use Rattle.std.specs.Result.{result_err}
 use Rattle.sat.specs.declared.fault.SolverFault.{SolverFault}
-use Rattle.std.proofs.lemmas.Bool.{both_ways}
-use Rattle.sat.specs.Clauses.{Clause, Meaning, with_first}
+use Rattle.sat.specs.Clauses.{Meaning, with_first}
 use Rattle.sat.specs.Faults.{keep_fault}
 use Rattle.sat.proofs.Checks.{keep_passes}
-use Rattle.encoding.specs.Holding.{Whole}
 
 pub some_none : {X : Type 0} {Y : Type 0} (x : X) → Some x ≡ None → Y
 some_none x e = let z : ◌≡◌ {A = ℕ} 0 1 = cc in absurd (omega arith)
@@ -34,12 +32,3 @@ laid_more blank table items R x l e =
 -- a refusal that the sizes rule out
 pub never_refused : {X Y : Type 0} {o : Option X} (f : X) → Some f ≡ o → o ≡ None → Y
 never_refused f e n = some_none f (e ∙ n)
-
-pub ok_none : {X : Type 0} (r : Result X SolverFault) → is_ok r ≡ true → result_err r ≡ None
-ok_none (Ok x) h = refl
-ok_none (Err f) h = absurd (both_ways false refl h)
-
--- clauses that are held whole, where the solver is as another one was
-pub whole_from : (variables need : ℕ) (m m₀ : Meaning) (added : List Clause) (m' : Meaning) (ok : Bool) → Whole variables need m added m' ok → m ≡ m₀
-    → Whole variables need m₀ added m' ok
-whole_from variables need m m₀ added m' ok w e = let P : Meaning → Type 0 = λ k. Whole variables need k added m' ok in subst P e w

@@ -2,7 +2,7 @@
 use Rattle.std.proofs.Common.{◌≡◌, ℕ, suc, ◌+◌, ◌*◌, ◌<◌, ◌≤◌, List, [], ◌∷◌, ◌++◌, map, length, get_or, take, sym, ap, ◌∙◌, mul-one, mul-add, arith}
 use Rattle.std.specs.List.{AllByRecursion}
 use Rattle.std.proofs.lemmas.Nat.{mul-le}
-use Rattle.std.proofs.lemmas.List.{append_assoc, append-nil, take_at, map_push, length-append}
+use Rattle.std.proofs.lemmas.List.{append_assoc, append-nil, take_at, map_push}
 use Rattle.circuit.specs.declared.record.Gate.{Gate}
 use Rattle.circuit.specs.declared.record.Record.{Record}
 use Rattle.game.specs.Models.{arena_of}
@@ -68,8 +68,3 @@ one_more size n places h = let p : size * (n + 1) ≤ size * places = mul-le siz
 
 pub as_many : (size n places : ℕ) → n ≤ places → size * n ≤ size * places
 as_many size n places h = mul-le size n size places (omega arith) h
-
-pub fixed_within : (r : Record) (gs : List Gate) (rows : List Row) (xs : List Exception) → length (fixed_clauses r gs rows) ≤ length (candidate_clauses r gs rows xs)
-fixed_within r gs rows xs =
-    let e = ap length (candidate_fixed r gs rows xs) in
-    omega (arith, length-append (fixed_clauses r gs rows) (map (exception_clause r) xs))

@@ -13,6 +13,7 @@ use sat::{NarrowingSolver, SolverFault};
 impl<C: NarrowingSolver, A: NarrowingSolver> Search<'_, '_, '_, '_, C, A> {
     // Empties both solvers and both rolls, whatever they held, and gives both solvers the model's steps. With these sizes
     // it is never refused.
+    #[tactic(auto, using(sat::proofs::Checks::keep_passes))]
     pub fn begin(&mut self) -> Result<(), SolverFault>
         ensures ok { result_err result ≡ None }
         ensures after { Turning (lent_to self.new) }
@@ -28,6 +29,7 @@ impl<C: NarrowingSolver, A: NarrowingSolver> Search<'_, '_, '_, '_, C, A> {
 
     // Leaves nothing behind of what a run uses on its way: no exceptions, no clauses, a work buffer of zeros. It is never
     // refused.
+    #[tactic(auto, using(sat::proofs::Checks::keep_passes))]
     pub fn finish(&mut self) -> Result<(), SolverFault>
         ensures ok { result_err result ≡ None }
         ensures after { Finished (lent_to self.old) (lent_to self.new) }

@@ -64,6 +64,7 @@ impl RunFault {
     }
 }
 
+// By hand, since a derived conversion does not promise what it gives.
 impl From<SolverFault> for RunFault {
     ghost from_gives = { λ f r. r ≡ Solver f };
 
@@ -72,6 +73,7 @@ impl From<SolverFault> for RunFault {
     }
 }
 
+// By hand, since a derived text is promised nowhere.
 impl fmt::Display for RunFault {
     ghost output = { λ f. Some (run_reason f) };
 

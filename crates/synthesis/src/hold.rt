@@ -32,7 +32,9 @@ pub fn fixed_clauses(model: &Model<'_>, rows: &[Row]) -> usize
     3 * model.gates() + 2 + row_clauses(rows)
 }
 
-// Holds the row at `place` in both solvers, the candidate solver after its first `fixed` clauses.
+// Holds the row at `place` in both solvers, the candidate solver after its first `fixed` clauses. A function of the two: a
+// method of the search would also have to say that all the rest stays.
+#[tactic(auto, using(sat::proofs::Checks::keep_passes))]
 pub fn hold_row<C: Solver, A: Solver>(
     model: &Model<'_>,
     candidate: &mut C,

@@ -1,4 +1,5 @@
-// What a turn asks the two solvers. Marks and assumptions are at most 64.
+// What a turn asks the two solvers. Marks and assumptions are at most 64. Each is a function of one solver and the buffer: a
+// method of the search would also have to say that all the rest stays.
 
 ghost use Rattle.std.specs.Prelude.{◌≡◌, ◌<◌, ◌≤◌, length};
 ghost use Rattle.sat.specs.Clauses.{Unsatisfiable};
@@ -38,6 +39,7 @@ pub fn find_pair<C: Solver>(
 }
 
 // The row whose care is the marked ones of the state's literals, which come after the event's.
+#[tactic(auto, using(crate::proofs::Sizing::bounds))]
 fn row_from(model: &Model<'_>, pair: Pair, marks: &[u8]) -> Row
     requires { length marks.now ≡ 64 }
     ensures { result ≡ row_from model.now.«record».now pair.state pair.event marks.now }
@@ -52,6 +54,7 @@ fn row_from(model: &Model<'_>, pair: Pair, marks: &[u8]) -> Row
 }
 
 // An answer to the pair that is good, or a row around its state.
+#[tactic(auto, using(crate::proofs::Asking::row_put, crate::proofs::Asking::found_answer, crate::proofs::Asking::no_answer))]
 pub fn find_answer<A: NarrowingSolver>(
     model: &Model<'_>,
     answer: &mut A,
@@ -74,14 +77,16 @@ pub fn find_answer<A: NarrowingSolver>(
 }
 
 // The exception whose cares are the marked ones of the state's and the event's literals, which come after the first ones.
+#[tactic(auto, using(crate::proofs::Sizing::bounds, crate::proofs::Asking::exception_of))]
 fn exception_from(model: &Model<'_>, pair: Pair, marks: &[u8]) -> Exception
     requires { length marks.now ≡ 64 }
     ensures { result ≡ exception_from model.now.«record».now pair.state pair.event marks.now }
 {
+    let count = model.event_inputs();
     let states = model.answer_inputs() + 1;
     let events = states + model.latches();
     let state_care = care_of(&marks[states..events]);
-    let event_care = care_of(&marks[events..events + model.event_inputs()]);
+    let event_care = care_of(&marks[events..events + count]);
     Exception {
         state_care,
         state_value: pair.state & state_care,
@@ -91,6 +96,7 @@ fn exception_from(model: &Model<'_>, pair: Pair, marks: &[u8]) -> Exception
 }
 
 // The exception around a pair to which the answer is good by so many rows: the solver says no.
+#[tactic(auto, using(crate::proofs::Asking::exception_put, crate::proofs::Asking::no_candidate))]
 pub fn find_exception<C: NarrowingSolver>(
     model: &Model<'_>,
     candidate: &mut C,

@@ -47,27 +47,26 @@ pub struct Sizes {
 }
 
 impl Sizes {
-    fn candidate_need(&self, model: &Model<'_>) -> Room
+    // What the candidate solver needs, and the answer solver.
+    #[tactic(auto, using(crate::proofs::Sizing::bounds, crate::proofs::Sizing::product))]
+    fn needs(&self, model: &Model<'_>) -> (Room, Room)
         requires rows { self.now.rows ≤ 1024 }
         requires exceptions { self.now.exceptions ≤ 4096 }
-        ensures { result ≡ candidate_need model.now.«record».now self.now }
+        ensures { result ≡ (candidate_need model.now.«record».now self.now, answer_need model.now.«record».now self.now) }
     {
         let latches = model.latches();
-        let cells = 10 * model.gates()
-            + (4 * latches + 5) * self.rows
-            + (latches + model.event_inputs() + 1) * self.exceptions
-            + 8;
-        let variables = model.maximum() as usize + 2 * self.rows + 2;
-        Room { variables, cells }
-    }
-
-    fn answer_need(&self, model: &Model<'_>) -> Room
-        requires { self.now.rows ≤ 1024 }
-        ensures { result ≡ answer_need model.now.«record».now self.now }
-    {
-        let cells = 10 * model.gates() + (model.latches() + 1) * self.rows + 8;
-        let variables = model.maximum() as usize + 2;
-        Room { variables, cells }
+        let of_exception = latches + model.event_inputs() + 1;
+        let gates = 10 * model.gates();
+        let maximum = model.maximum() as usize;
+        let candidate = Room {
+            variables: maximum + 2 * self.rows + 2,
+            cells: gates + (4 * latches + 5) * self.rows + of_exception * self.exceptions + 8,
+        };
+        let answer = Room {
+            variables: maximum + 2,
+            cells: gates + (latches + 1) * self.rows + 8,
+        };
+        (candidate, answer)
     }
 
     // Refuses sizes that are too small, or too many places.
@@ -78,10 +77,11 @@ impl Sizes {
         if self.rows > MAX_ROWS || self.exceptions > MAX_EXCEPTIONS {
             return Err(RunFault::TooManyPlaces);
         }
-        if !self.candidate.fits(self.candidate_need(model)) {
+        let (candidate, answer) = self.needs(model);
+        if !self.candidate.fits(candidate) {
             return Err(RunFault::CandidateSmall);
         }
-        if !self.answer.fits(self.answer_need(model)) {
+        if !self.answer.fits(answer) {
             return Err(RunFault::AnswerSmall);
         }
         if self.candidate.variables.max(self.answer.variables) < self.work {

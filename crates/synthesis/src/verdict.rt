@@ -23,6 +23,7 @@ impl Verdict {
     }
 }
 
+// By hand, since a derived text is promised nowhere.
 impl fmt::Display for Verdict {
     ghost output = { λ v. Some (verdict_text v) };
 

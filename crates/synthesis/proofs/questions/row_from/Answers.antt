@@ -1,16 +1,9 @@
-use Rattle.std.proofs.Common.{arith}
 use Rattle.synthesis.proofs.Sizing.{bounds}
 use Rattle.synthesis.proofs.Asking.{row_of}
 use Rattle.synthesis.proofs.questions.row_from.Goals as goal
-
-pub overflow_add-events : goal.overflow_add-events
-overflow_add-events c = let b = bounds c.args.model.now in record { fits = omega (arith, c.latches.ensures, c.event_inputs-events.ensures) }
-
-pub slice_bounds-care_of-end : goal.slice_bounds-care_of-end
-slice_bounds-care_of-end c = let b = bounds c.args.model.now in omega (arith, c.latches.ensures, c.event_inputs-events.ensures, c.requires)
 
 pub returns : goal.returns
 returns c =
     let b = bounds c.args.model.now in
     row_of c.args.model.now.«record».now c.args.pair.state c.args.pair.event c.args.marks.now c.event_inputs-events.result c.latches.result c.care_of-care.result
-    c.event_inputs-events.ensures c.latches.ensures b.latches c.care_of-care.ensures
+    c.event_inputs-events.ensures.value c.latches.ensures.value b.latches c.care_of-care.ensures

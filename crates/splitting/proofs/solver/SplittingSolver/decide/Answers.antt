@@ -6,18 +6,6 @@ use Rattle.splitting.proofs.Refusals.{decide_accepts}
 use Rattle.splitting.proofs.Publics.{solved, refuted}
 use Rattle.splitting.proofs.solver.SplittingSolver.decide.Goals as goal
 
-pub solve-requires : goal.solve-requires
-solve-requires c = let a = decide_accepts _ _ _ _ (sym c.in_ok-check_decide.ensures) in a.0.ranges
-
-pub write-requires : goal.write-requires
-write-requires c =
-    let a = decide_accepts _ _ _ _ (sym c.in_ok-check_decide.ensures) in omega (arith, a.1, ap (λ (m : Meaning). m.variables) c.solve.ensures.same)
-
-pub mark-requires : goal.mark-requires
-mark-requires c =
-    let a = decide_accepts _ _ _ _ (sym c.in_ok-check_decide.ensures) in
-    record { inside = rw (ap (λ (m : Meaning). m.variables) c.solve.ensures.same) a.0.ranges; room = a.2 }
-
 pub returns-then-solve-clause-cases : goal.returns-then-solve-clause-cases
 returns-then-solve-clause-cases c =
     let a = decide_accepts _ _ _ _ (sym c.in_ok-check_decide.ensures) in
