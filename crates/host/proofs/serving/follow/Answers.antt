@@ -1,11 +1,8 @@
-use Rattle.std.proofs.Common.{List, [], ◌≡◌, sym, refl, ap, ◌∙◌, subst, arith}
-use Rattle.std.proofs.lemmas.List.{take_all}
+use Rattle.std.proofs.Common.{[], ◌≡◌, sym, refl, ap, ◌∙◌, subst, arith}
 use Rattle.region.specs.Parts.{arena_in, rows_in}
 use Rattle.session.specs.Laws.{History, opened}
 use Rattle.session.specs.Sessions.{Stage, waiting}
 use Rattle.host.specs.Answers.{stage_of}
-use Rattle.host.specs.Served.{Served}
-use Rattle.host.specs.declared.exchange.Exchange.{Exchange}
 use Rattle.host.proofs.Tellings.{follow_more}
 use Rattle.host.proofs.serving.follow.Goals as goal
 
@@ -21,13 +18,3 @@ loop-exchange-preserved c =
     let w = follow_more _ _ i.0 c.loop-exchange.exchanges c.args.exchanges.now c.loop-exchange.exchange-index _ (stage_of c.loop-exchange.session) (stage_of c.answer-after.result.0) c.answer-after.result.1
     (omega arith) i.1 i.2 i.3 c.answer-after.ensures in
     (i.0, w.0, w.1, w.2)
-
-pub returns : goal.returns
-returns c =
-    let i = c.loop-exchange.invariant in
-    let P : List Exchange → Type 0 = λ xs. Served (arena_in c.args.region.now) (waiting 0) xs (stage_of c.loop-exchange.session) in
-    record {
-      calls = i.3;
-      served = (stage_of c.loop-exchange.session, subst P (take_all c.loop-exchange.exchange-index c.loop-exchange.exchanges (omega arith)) i.2);
-      law = i.0;
-    }
