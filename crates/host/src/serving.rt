@@ -51,11 +51,9 @@ pub fn serve<C: NarrowingSolver, A: NarrowingSolver>(
     ensures served { Serving (model_arena model.now) (items_of rows.new) exchanges.old exchanges.new result }
     ensures alike { ServedAlike (model_arena model.now) }
 {
-    // A copy, since the run holds all that it is lent equally long.
-    let host = *model;
     let (verdict, count) = run(model, candidate, answer, rows, exceptions, work)?;
     match verdict {
-        Verdict::Kept => follow(&Region::join(host, rows.items()), exchanges),
+        Verdict::Kept => follow(&Region::join(*model, rows.items()), exchanges),
         Verdict::Lost => {}
     }
     Ok((verdict, count))

@@ -39,9 +39,8 @@ impl<C: NarrowingSolver, A: NarrowingSolver> Search<'_, '_, '_, '_, C, A> {
     }
 }
 
-// Decides whether the host can keep its rules for ever from reset, and leaves the rows that show it. The candidate solver
-// is asked for what is due, the answer solver for answers; `work` takes their values.
-pub fn run<'a, C: NarrowingSolver, A: NarrowingSolver>(
+// The same where all is lent equally long, as a struct takes it.
+fn run_equally<'a, C: NarrowingSolver, A: NarrowingSolver>(
     model: &'a Model<'_>,
     candidate: &'a mut C,
     answer: &'a mut A,
@@ -68,4 +67,19 @@ pub fn run<'a, C: NarrowingSolver, A: NarrowingSolver>(
         work,
     };
     search.run()
+}
+
+// Decides whether the host can keep its rules for ever from reset, and leaves the rows that show it. The candidate solver
+// is asked for what is due, the answer solver for answers; `work` takes their values.
+pub fn run<C: NarrowingSolver, A: NarrowingSolver>(
+    model: &Model<'_>,
+    candidate: &mut C,
+    answer: &mut A,
+    rows: &mut Roll<'_, Row>,
+    exceptions: &mut Roll<'_, Exception>,
+    work: &mut [u8],
+) -> Result<(Verdict, usize), RunFault>
+    ensures cases { RunGives (lent model.now rows.old exceptions.old (C.Solver.meaning candidate.old) (A.Solver.meaning answer.old) work.old) (lent model.now rows.new exceptions.new (C.Solver.meaning candidate.new) (A.Solver.meaning answer.new) work.new) result }
+{
+    run_equally(model, candidate, answer, rows, exceptions, work)
 }

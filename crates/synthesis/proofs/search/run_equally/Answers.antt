@@ -1,6 +1,6 @@
 use Rattle.std.proofs.Common.{sym, ◌∙◌}
 use Rattle.synthesis.proofs.Starting.{sizes_ample, fault_at}
-use Rattle.synthesis.proofs.search.run.Goals as goal
+use Rattle.synthesis.proofs.search.run_equally.Goals as goal
 
 pub invariant_of-search : goal.invariant_of-search
 invariant_of-search g c = record {
