@@ -21,6 +21,7 @@ pub enum ReadFault {
 }
 
 impl ReadFault {
+    // Numbers as others read them; a cast of discriminants is no plainer.
     pub fn number(self) -> u8
         ensures { result ≡ (refusal_of self).number }
     {
@@ -74,6 +75,7 @@ impl ReadFault {
     }
 }
 
+// By hand, since a derived text is promised nowhere.
 impl fmt::Display for ReadFault {
     ghost output = { λ f. Some (read_reason f) };
 
@@ -88,6 +90,7 @@ pub enum WriteFault {
 }
 
 impl WriteFault {
+    // Numbers as others read them; a cast of discriminants is no plainer.
     pub fn number(self) -> u8
         ensures { result ≡ write_number self }
     {
@@ -105,6 +108,7 @@ impl WriteFault {
     }
 }
 
+// By hand, since a derived text is promised nowhere.
 impl fmt::Display for WriteFault {
     ghost output = { λ f. Some (write_reason f) };
 

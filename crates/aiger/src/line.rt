@@ -13,7 +13,8 @@ pub enum SymbolKind {
     Output,
 }
 
-// The kinds of line that a file can have after its header. A symbol's name is a part of the file.
+// The kinds of line that a file can have after its header. A symbol's name is a part of the file. Malformed is a case, and no None:
+// what it means depends on the section, as with every other line.
 #[derive(Clone, Copy, PartialEq, Eq, Debug)]
 pub enum Line<'a> {
     One(u16),
@@ -65,7 +66,7 @@ pub fn classify<'a>(bytes: &'a [u8]) -> Line<'a>
 {
     match bytes {
         [] => Line::Malformed,
-        [letter, rest @ ..] => match *letter as char {
+        [letter, rest @ ..] => match char::from(*letter) {
             'i' => symbol(SymbolKind::Input, rest),
             'l' => symbol(SymbolKind::Latch, rest),
             'o' => symbol(SymbolKind::Output, rest),
@@ -75,7 +76,7 @@ pub fn classify<'a>(bytes: &'a [u8]) -> Line<'a>
     }
 }
 
-// The five numbers of a header.
+// The five numbers of a header, each by let .. else, by a rule of the project.
 #[tactic(auto, unfolding(crate::specs::Line::five_of))]
 fn five_numbers(bytes: &[u8]) -> Option<Header>
     ensures { result ≡ five_of bytes.now }

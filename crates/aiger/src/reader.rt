@@ -25,7 +25,7 @@ pub enum Section {
     Comment,
 }
 
-// Which inputs, latches and outputs a symbol has named.
+// Which inputs, latches and outputs a symbol has named: flags by position, since there is no heap.
 #[derive(Clone, Copy, PartialEq, Eq, Debug)]
 pub struct Names {
     pub inputs: [bool; MAX_INPUTS],
@@ -137,7 +137,7 @@ impl Reading {
         ensures value { result ≡ fresh_on at literal self.now.state }
         ensures bound { OnOk result (literal.code ≤ 8193) }
     {
-        if self.over(literal) || literal.code % 2 == 1 || literal.code == 0 {
+        if self.over(literal) || literal.is_negated() || literal.code == 0 {
             return Err(ReadFault::BadLiteral(at));
         }
         if self.state.knows(literal) {
@@ -222,6 +222,7 @@ impl Reading {
         self.leave_gates()
     }
 
+    // The gate table stays beside the reader: a struct of both would have to promise that it is the same table.
     #[tactic(auto, unfolding(crate::specs::Advance::gate_on))]
     fn gate(&mut self, gates: &mut [Gate], at: u32, gate: Gate) -> Result<(), ReadFault>
         requires { self.old.state.place < length gates.old }
@@ -277,7 +278,7 @@ impl Reading {
         Ok(())
     }
 
-    // Takes line `at` of the file: what it means depends on the section reached.
+    // Takes line `at` of the file: what it means depends on the section reached. One match of both, by a rule of the project.
     #[tactic(auto, unfolding(crate::specs::Advance::advance))]
     pub(crate) fn take(&mut self, gates: &mut [Gate], at: u32, line: Line) -> Result<(), ReadFault>
         requires { Fits self.old.state (length gates.old) }
@@ -306,7 +307,7 @@ impl Reading {
             (Section::Symbols, Line::Symbol(kind, position, name)) => self.symbol(
                 at,
                 kind,
-                position as usize,
+                usize::from(position),
                 name,
             ),
             (Section::Symbols, Line::Comment) => {

@@ -70,7 +70,7 @@ impl<'a> Writer<'a> {
         }
     }
 
-    // A number in decimal.
+    // A number in decimal, by hand: the writer also measures what finds no room.
     fn number(&mut self, n: u16)
         ensures { self.new ≡ put (decimal n) self.old }
     {

@@ -5,7 +5,7 @@ ghost use Rattle.cells.specs.Cells.{codes, clauses, Coded, Small};
 
 use literal::Literal;
 
-// The cells in use hold `count` clauses and nothing else.
+// The cells in use hold `count` clauses and nothing else. Lent numbers, and no Vec: a solver takes no heap.
 #[derive(Drop)]
 pub struct Cells<'a> {
     pub(crate) numbers: &'a mut [u32],
@@ -25,6 +25,7 @@ fn write_clause(cells: &mut [u32], clause: &[Literal])
     ensures small { Small (codes clause.now) }
 {
     cells[0] = clause.len() as u32;
+    // By index: after writing through iter_mut().zip nothing is known of the cells.
     for (i, literal) in clause.iter().enumerate() {
         cells[1 + i] = u32::from(literal.code);
     }

@@ -11,6 +11,7 @@ pub enum StepFault {
 }
 
 impl StepFault {
+    // Numbers as others read them; a cast of discriminants is no plainer.
     pub fn number(self) -> u8
         ensures { result ≡ step_number self }
     {
@@ -20,7 +21,7 @@ impl StepFault {
     }
 }
 
-// The reason in words.
+// The reason in words, by hand since a derived text is promised nowhere.
 impl fmt::Display for StepFault {
     ghost output = { λ f. Some (step_reason f) };
 

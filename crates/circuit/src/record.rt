@@ -80,7 +80,7 @@ impl Latch {
 }
 
 impl Record {
-    // A record of zeros.
+    // A record of zeros. A function, and no Default: its contract says what a blank record is.
     pub fn blank() -> Record
         ensures { result ≡ blank_record }
     {

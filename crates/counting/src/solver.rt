@@ -74,6 +74,7 @@ impl<'a> Solver for Counting<'a> {
         self.cells.room()
     }
 
+    // As in the other solver: a check and a call, which a struct under both would only pass on.
     #[tactic(auto, unfolding(sat::specs::Faults::literals_fault, sat::specs::Faults::hold_fault), using(cells::proofs::Ranges::range_push))]
     fn hold(&mut self, clause: &[Literal]) -> Result<(), SolverFault> {
         check_hold(clause, self.variables, self.cells.free())?;

@@ -31,6 +31,7 @@ pub fn values_text(heap: Global, values: &[u8]) -> Result<String, AllocError> {
 #[derive(Drop)]
 pub struct Reason(pub DimacsFault);
 
+// By hand, since a derived text is promised nowhere.
 impl fmt::Display for Reason {
     ghost output = { λ r. Some (reason r.0) };
 

@@ -20,6 +20,7 @@ pub enum DimacsFault {
 }
 
 impl DimacsFault {
+    // Numbers as others read them; a cast of discriminants is no plainer.
     pub fn number(self) -> u8
         ensures { result ≡ fault_number self }
     {

@@ -59,7 +59,7 @@ pub fn read_header<'a>(text: &'a [u8]) -> Result<(Header, &'a [u8]), DimacsFault
     ensures { MatchResult result (λ p. Headed text.now p.0 p.1.now) (λ e. Headless e text.now) }
 {
     let mut lines = Lines::of(text);
-    // By hand, since `find` leaves the proof more to say than the loop does.
+    // A loop, and no `find`: tried, and three goals stayed open where the loop has an invariant of a line.
     while let Some(line) = lines.next() {
         if !is_silent(line) {
             let header = header_line(line).ok_or(DimacsFault::HeaderMalformed)?;

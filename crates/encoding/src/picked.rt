@@ -27,7 +27,8 @@ pub fn push_signed(table: &mut Literals, literals: &Literals, mut number: u32)
     prove!(table.as_slice().len() <= MAX_LITERALS);
 }
 
-// Puts those at the bits of the mask, with the signs of the value's bits. A mask of ones would put all, but of 32 at most.
+// Puts those at the bits of the mask, with the signs of the value's bits. Apart from push_signed, which has
+// no mask: a mask of ones ends at 32 literals, so one by the other is no plainer.
 pub fn push_cared(table: &mut Literals, literals: &Literals, mut care: u32, mut value: u32)
     ensures { table.new ≡ take 64 (table.old ++ cared literals.now care value) }
 {

@@ -16,6 +16,7 @@ pub struct Variables {
     ghost small: { maximum ≤ 4096 },
 }
 
+// In `dimacs_text` too, under another bound: one function of both would ask for the smaller.
 fn positive(variable: u16) -> Literal
     requires { variable < 32768 }
     ensures { result ≡ positive variable }

@@ -6,6 +6,7 @@ ghost use Rattle.game.specs.Models.{model_arena, step_in, Playable};
 use circuit::{Model, StepFault};
 
 // A step of the arena: whether it is bad, and the next state.
+// A pair, as the model's step gives.
 pub fn step(
     model: &Model<'_>,
     state: u32,

@@ -16,6 +16,7 @@ pub enum Session {
     Raised(Raised),
 }
 
+// By hand, since a derived conversion does not promise what it gives. So is the next.
 impl From<Waiting> for Session {
     ghost from_gives = { λ w s. s ≡ stage.Waiting w };
 

@@ -88,6 +88,7 @@ impl fmt::Display for JudgeFault {
     }
 }
 
+// By hand, since a derived text is promised nowhere.
 impl fmt::Display for Refusal {
     ghost output = { λ r. Some (refusal_text r) };
 

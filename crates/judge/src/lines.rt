@@ -21,6 +21,7 @@ pub struct RowLine {
     pub row: Row,
 }
 
+// By hand, since a derived text is promised nowhere.
 impl fmt::Display for VerdictLine {
     ghost output = { λ l. Some (verdict_line l) };
 
@@ -30,6 +31,7 @@ impl fmt::Display for VerdictLine {
     }
 }
 
+// By hand, since a derived text is promised nowhere.
 impl fmt::Display for RowLine {
     ghost output = { λ l. Some (row_line l) };
 

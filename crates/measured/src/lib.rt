@@ -11,7 +11,7 @@ use circuit::{Gate, Model, Record};
 
 const REFUSED: u64 = 0x1_0000_0000;
 
-// A refusal is a number here, since C calls these two.
+// A refusal is a number here, since C calls these two by way of `measured_c`.
 
 // Reads a model and steps it `count` times; the last state, or 2^32 and the number of the refusal.
 pub fn dilgrast_walk(file: &[u8], count: u32) -> u64

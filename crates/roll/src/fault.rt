@@ -14,6 +14,7 @@ pub enum RollFault {
 }
 
 impl RollFault {
+    // Numbers as others read them; a cast of discriminants is no plainer.
     pub fn number(self) -> u8
         ensures { result ≡ roll_number self }
     {
@@ -24,6 +25,7 @@ impl RollFault {
     }
 }
 
+// By hand, since a derived text is promised nowhere.
 impl fmt::Display for RollFault {
     ghost output = { λ f. Some (roll_reason f) };
 

@@ -4,6 +4,7 @@ ghost use Rattle.std.specs.Prelude.{◌≤◌, length};
 
 pub mod calls;
 
+// A slice and a count, and no Vec: the caller lends the places.
 #[derive(Drop)]
 pub struct Roll<'a, T> {
     places: &'a mut [T],

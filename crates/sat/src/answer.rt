@@ -14,6 +14,7 @@ pub enum Answer {
 }
 
 impl Answer {
+    // Numbers as others read them; a cast of discriminants is no plainer.
     pub fn number(self) -> u8
         ensures { result ≡ answer_number self }
     {
@@ -24,6 +25,7 @@ impl Answer {
     }
 }
 
+// By hand, since a derived text is promised nowhere.
 impl fmt::Display for Answer {
     ghost output = { λ a. Some (answer_text a) };
 

@@ -77,6 +77,7 @@ pub fn check_decide(
 }
 
 // The same, and how many assumptions are always to be marked.
+// Five numbers of the call, which nothing else takes together.
 #[tactic(auto, unfolding(crate::specs::Faults::literals_fault, crate::specs::Faults::decide_fault, crate::specs::Faults::narrow_fault))]
 pub fn check_narrow(
     assumed: &[Literal],

@@ -18,6 +18,7 @@ pub enum SolverFault {
 }
 
 impl SolverFault {
+    // Numbers as others read them; a cast of discriminants is no plainer.
     pub fn number(self) -> u8
         ensures { result ≡ fault_number self }
     {
@@ -33,6 +34,7 @@ impl SolverFault {
     }
 }
 
+// By hand, since a derived text is promised nowhere.
 impl fmt::Display for SolverFault {
     ghost output = { λ e. Some (fault_reason e) };
 

@@ -37,6 +37,7 @@ pub trait Solver {
 
     // Whether some values satisfy every clause and make every assumption true: yes writes such values, a byte for
     // each variable, and no marks assumptions that are enough to rule them out. Which values and which marks is free.
+    // Values and marks are bytes of lent buffers.
     fn decide(
         &mut self,
         assumed: &[Literal],

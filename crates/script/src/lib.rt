@@ -26,6 +26,7 @@ pub fn read_line(line: &[u8]) -> Option<Asked>
     Some(Asked { event, answer })
 }
 
+// A loop of its own: here a large number is held to the largest, in `text` it is refused.
 fn word(bytes: &[u8]) -> Option<u32>
     ensures { result ≡ word_of bytes.now }
 {

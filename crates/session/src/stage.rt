@@ -26,7 +26,7 @@ impl Raised {
     }
 }
 
-// The answer to give, whether it replaces the wish, and the session after it.
+// The answer to give, whether it replaces the wish, and the session after it. A flag, and no enum: the answer is given either way.
 #[derive(Drop, Debug)]
 pub struct Settled {
     pub answer: u32,

@@ -70,6 +70,7 @@ impl Host {
     }
 }
 
+// Also in `circuit_tests`: neither crate of tests is to wait for the other.
 fn one_latch() -> Record
     ensures { result ≡ one_latch 5 }
 {

@@ -25,6 +25,7 @@ pub enum NoStep {
     Unread(u64),
 }
 
+// By hand, since a derived conversion does not promise what it gives.
 impl From<StepFault> for NoStep {
     ghost from_gives = { λ f r. r ≡ Refused f };
 
@@ -56,6 +57,7 @@ pub fn state_after(reply: Reply, state: u32) -> u32
     reply.map_or(state, |step| step.next)
 }
 
+// By hand, since a derived text is promised nowhere.
 impl fmt::Display for Stepped {
     ghost output = { λ x. Some (shown_of (Ok x)) };
 
@@ -71,6 +73,7 @@ impl fmt::Display for Stepped {
     }
 }
 
+// By hand, since a derived text is promised nowhere.
 impl fmt::Display for NoStep {
     ghost output = { λ x. Some (shown_of (Err x)) };
 

@@ -75,6 +75,7 @@ fn past(front: usize, at: usize, next: usize) -> usize
 impl<'a> Trail<'a> {
     // Goes over the clauses from `front` on, again and again. A clause before the first one that is not satisfied is
     // never read again before a backtrack, and a pass without a change is the last.
+    // That the cells are whole is asked by each function of the search: a struct round three references needs a clause for each.
     pub fn propagate(&mut self, cells: &[u32], mut front: usize) -> Spread
         requires whole { Whole cells.now (length self.old.value.now) }
         requires good { GoodTrail cells.now self.old }

@@ -30,6 +30,7 @@ impl Reason {
     }
 }
 
+// By hand: the number is taken apart.
 impl From<u32> for Reason {
     ghost from_gives = { λ number reason. Explains reason number };
 

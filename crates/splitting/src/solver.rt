@@ -64,6 +64,7 @@ impl<'a> Solver for Splitting<'a> {
         self.cells.room()
     }
 
+    // As in the other solver: a check and a call, which a struct under both would only pass on.
     #[tactic(auto, using(cells::proofs::Ranges::range_push, crate::proofs::Refusals::hold_accepts))]
     fn hold(&mut self, clause: &[Literal]) -> Result<(), SolverFault> {
         check_hold(clause, self.variables, self.cells.free())?;

@@ -14,6 +14,7 @@ impl<'a> Splitting<'a> {
         ensures { Valued self.now.trail.value.now self.now.variables values.old values.new }
     {
         values[0] = 0;
+        // By index: after writing through iter_mut().zip nothing is known of the bytes.
         for variable in 1..=self.variables {
             values[variable] = u8::from(self.trail.value[variable] == 1);
         }
@@ -25,6 +26,7 @@ impl<'a> Splitting<'a> {
         requires room { length assumed.now ≤ length marks.old }
         ensures { MarkedBy self.now.seen.now assumed.now marks.old marks.new }
     {
+        // By index: after writing through iter_mut().zip nothing is known of the bytes.
         for (k, literal) in assumed.iter().enumerate() {
             marks[k] = u8::from(self.seen[literal.variable()] != 0);
         }

@@ -21,6 +21,7 @@ pub enum RunFault {
 }
 
 impl RunFault {
+    // Numbers as others read them; a cast of discriminants is no plainer.
     pub fn number(self) -> u8
         ensures { result ≡ (refusal_of self).number }
     {

@@ -39,7 +39,7 @@ impl<C: NarrowingSolver, A: NarrowingSolver> Search<'_, '_, '_, '_, C, A> {
     }
 }
 
-// The same where all is lent equally long, as a struct takes it.
+// The same where all is lent equally long, as a struct takes it; `run` asks that of no caller.
 fn run_equally<'a, C: NarrowingSolver, A: NarrowingSolver>(
     model: &'a Model<'_>,
     candidate: &'a mut C,

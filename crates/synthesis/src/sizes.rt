@@ -57,7 +57,7 @@ impl Sizes {
         let latches = model.latches();
         let of_exception = latches + model.event_inputs() + 1;
         let gates = 10 * model.gates();
-        let maximum = model.maximum() as usize;
+        let maximum = usize::from(model.maximum());
         let candidate = Room {
             variables: maximum + 2 * self.rows + 2,
             cells: gates + (4 * latches + 5) * self.rows + of_exception * self.exceptions + 8,

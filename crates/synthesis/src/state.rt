@@ -8,6 +8,7 @@ use roll::Roll;
 use sat::NarrowingSolver;
 
 // The candidate solver is asked for what is due, the answer solver for answers; `work` takes their values.
+// What a turn needs is no ghost field: a run begins and ends without it.
 #[derive(Drop)]
 pub struct Search<'a, 'm, 'r, 'e, C: NarrowingSolver, A: NarrowingSolver> {
     pub(crate) model: &'a Model<'m>,

@@ -13,6 +13,7 @@ pub enum Verdict {
 }
 
 impl Verdict {
+    // Numbers as others read them; a cast of discriminants is no plainer.
     pub fn number(self) -> u8
         ensures { result ≡ verdict_number self }
     {
