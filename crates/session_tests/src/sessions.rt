@@ -2,15 +2,18 @@
 
 use crate::models::Host;
 use session::{Refusal, SessionFault, Settled, open};
-use std::fmt::Debug;
-use std::process::Abort;
 use std::test::Fail;
 
 // The session that a call gives back, which has to refuse with the fault.
-fn refused<T: Debug, S>(rt: &impl Abort, res: Result<T, Refusal<S>>, fault: SessionFault) -> S {
-    let refusal = res.expect_err(rt, "a refusal");
-    assert_eq!(rt; refusal.fault, fault);
-    refusal.session
+fn refused<T: Drop, S: Drop>(res: Result<T, Refusal<S>>, fault: SessionFault) -> Result<S, Fail> {
+    let Err(refusal) = res else {
+        return Err(Fail::new("the call is not refused"));
+    };
+    if refusal.fault == fault {
+        Ok(refusal.session)
+    } else {
+        Err(Fail::new("the call is refused for another reason"))
+    }
 }
 
 // What a settle tells: the answer, and whether it replaces the wish.
@@ -36,13 +39,9 @@ fn a_wish_is_replaced_or_used(rt: HostRuntime) -> Result<(), Fail> {
 fn numbers_out_of_range(rt: HostRuntime) -> Result<(), Fail> {
     let host = Host::one_latch();
     let region = host.region();
-    let waiting = refused(
-        &rt,
-        open(&region).raise(&region, 2),
-        SessionFault::OutOfRange,
-    );
+    let waiting = refused(open(&region).raise(&region, 2), SessionFault::OutOfRange)?;
     let raised = waiting.raise(&region, 1)?;
-    let raised = refused(&rt, raised.settle(&region, 2), SessionFault::OutOfRange);
+    let raised = refused(raised.settle(&region, 2), SessionFault::OutOfRange)?;
     assert_eq!(rt; told(&raised.settle(&region, 1)?), (1, false));
     Ok(())
 }
@@ -54,14 +53,10 @@ fn a_foreign_state(rt: HostRuntime) -> Result<(), Fail> {
     let (region, free, nothing) = (host.region(), free_host.region(), no_host.region());
     let settled = open(&free).raise(&free, 1)?.settle(&free, 1)?;
     assert_eq!(rt; told(&settled), (1, false));
-    let waiting = refused(
-        &rt,
-        settled.session.raise(&region, 5),
-        SessionFault::Foreign,
-    );
-    let waiting = refused(&rt, waiting.reset(&nothing), SessionFault::Foreign);
+    let waiting = refused(settled.session.raise(&region, 5), SessionFault::Foreign)?;
+    let waiting = refused(waiting.reset(&nothing), SessionFault::Foreign)?;
     let raised = waiting.raise(&free, 0)?;
-    let raised = refused(&rt, raised.settle(&region, 5), SessionFault::Foreign);
+    let raised = refused(raised.settle(&region, 5), SessionFault::Foreign)?;
     // On its own region it goes on; back at reset it is at home in every region.
     let settled = raised.settle(&free, 1)?;
     assert_eq!(rt; settled.answer, 1);
@@ -80,7 +75,7 @@ fn a_foreign_event(rt: HostRuntime) -> Result<(), Fail> {
     let (free_host, no_host) = (Host::free_latch(), Host::nothing());
     let (free, nothing) = (free_host.region(), no_host.region());
     let raised = open(&free).raise(&free, 1)?;
-    let raised = refused(&rt, raised.settle(&nothing, 0), SessionFault::Foreign);
+    let raised = refused(raised.settle(&nothing, 0), SessionFault::Foreign)?;
     assert_eq!(rt; told(&raised.settle(&free, 0)?), (0, false));
     Ok(())
 }
