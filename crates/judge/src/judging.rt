@@ -31,8 +31,7 @@ pub struct Judgement {
     pub rows: Vec<Row>,
 }
 
-// Serves over two solvers, each under the layer. It is generic, since the kit makes a layer only over a solver that it
-// does not look into.
+// Serves over two solvers of any kinds, each under the layer.
 fn serve_by_layers<C: Solver + Drop, A: Solver + Drop>(
     model: &Model<'_>,
     candidate: C,
