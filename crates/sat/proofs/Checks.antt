@@ -1,5 +1,5 @@
 -- What the refusals' definitions say of one another.
-use Rattle.std.proofs.Common.{◌≡◌, ℕ, ◌<◌, ◌≤◌, Bool, true, false, cond, ltb, leb, List, length, Some, None, Option, refl, ◌∙◌, arith}
+use Rattle.std.proofs.Common.{◌≡◌, ℕ, ◌<◌, ◌≤◌, Bool, true, false, cond, ltb, leb, List, length, Some, None, Option, sym, refl, ◌∙◌, arith}
 use Rattle.std.proofs.lemmas.Bool.{leb-true, le-leb, ltb-true, lt-ltb, cond-true, and_parts, and_from}
 use Rattle.literal.specs.declared.Literal.{Literal}
 use Rattle.sat.specs.declared.fault.SolverFault.{SolverFault}
@@ -9,6 +9,11 @@ use Rattle.sat.specs.Faults.{in_range, most_literals, literals_fault, hold_fault
 some_none : {X : Type 0} {Y : Type 0} (x : X) → Some x ≡ None → Y
 some_none x e = let z : ◌≡◌ {A = ℕ} 0 1 = cc in absurd (omega arith)
 
+stopped : (a b : Bool) (x y z : SolverFault) (o : Option SolverFault) → cond a (cond b None (Some y)) (Some x) ≡ Some z → cond a (cond b o (Some y)) (Some x) ≡ Some z
+stopped true true x y z o e = some_none z (sym e)
+stopped true false x y z o e = e
+stopped false b x y z o e = e
+
 joined_passed : (a b d : Bool) (o : Option SolverFault)
     → cond a (cond b (cond d None (Some BufferShort)) (Some TooManyLiterals)) (Some VariableOutOfRange) ≡ None
     → cond a (cond b (cond d o (Some BufferShort)) (Some TooManyLiterals)) (Some VariableOutOfRange) ≡ o
@@ -17,11 +22,30 @@ joined_passed true true false o e = some_none BufferShort e
 joined_passed true false d o e = some_none TooManyLiterals e
 joined_passed false b d o e = some_none VariableOutOfRange e
 
-decide_narrow_passed : (V : ℕ) (ls : List Literal) (first values marks : ℕ) → decide_fault V ls values marks ≡ None
+joined_stopped : (a b d : Bool) (o : Option SolverFault) (z : SolverFault)
+    → cond a (cond b (cond d None (Some BufferShort)) (Some TooManyLiterals)) (Some VariableOutOfRange) ≡ Some z
+    → cond a (cond b (cond d o (Some BufferShort)) (Some TooManyLiterals)) (Some VariableOutOfRange) ≡ Some z
+joined_stopped true true true o z e = some_none z (sym e)
+joined_stopped true true false o z e = e
+joined_stopped true false d o z e = e
+joined_stopped false b d o z e = e
+
+-- literals out of order: whatever else is wrong
+pub literals_stopped : (V : ℕ) (ls : List Literal) (o : Option SolverFault) (e : SolverFault) → literals_fault V ls None ≡ Some e → literals_fault V ls o ≡ Some e
+unfolding literals_fault
+literals_stopped V ls o z e = stopped (in_range V ls) (leb (length ls) most_literals) VariableOutOfRange TooManyLiterals z o e
+
+pub decide_narrow_passed : (V : ℕ) (ls : List Literal) (first values marks : ℕ) → decide_fault V ls values marks ≡ None
     → narrow_fault V ls first values marks ≡ cond (leb first (length ls)) None (Some FirstExceeded)
 unfolding decide_fault narrow_fault literals_fault
 decide_narrow_passed V ls first values marks e =
     joined_passed (in_range V ls) (leb (length ls) most_literals) (buffers_fit V ls values marks) (cond (leb first (length ls)) None (Some FirstExceeded)) e
+
+pub decide_narrow_stopped : (V : ℕ) (ls : List Literal) (first values marks : ℕ) (z : SolverFault) → decide_fault V ls values marks ≡ Some z
+    → narrow_fault V ls first values marks ≡ Some z
+unfolding decide_fault narrow_fault literals_fault
+decide_narrow_stopped V ls first values marks z e =
+    joined_stopped (in_range V ls) (leb (length ls) most_literals) (buffers_fit V ls values marks) (cond (leb first (length ls)) None (Some FirstExceeded)) z e
 
 -- what a passed check says, and that nothing else stops it
 

@@ -92,6 +92,11 @@ cells_of_append (c ∷ xs) ys = omega (arith, cells_of_append xs ys)
 pub cells_of_push : (cs : List Clause) (c : Clause) → cells_of (cs ++ c ∷ []) ≡ cells_of cs + (length c + 1)
 cells_of_push cs c = omega (arith, cells_of_append cs (c ∷ []))
 
+-- a clause takes a cell at least
+pub count_le_cells : (cs : List Clause) → length cs ≤ cells_of cs
+count_le_cells [] = omega arith
+count_le_cells (c ∷ cs) = omega (arith, count_le_cells cs)
+
 pub cells_of_take : (n : ℕ) (cs : List Clause) → cells_of (take n cs) ≤ cells_of cs
 cells_of_take zero cs = omega arith
 cells_of_take (suc n) [] = omega arith

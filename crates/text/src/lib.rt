@@ -9,7 +9,8 @@ ghost use Rattle.text.specs.Cut.{cut_at, parts_of, taken_of, field_of, CutLaw, F
 pub fn digit(byte: u8) -> Option<u8>
     ensures { result ≡ digit_of byte }
 {
-    byte.checked_sub(b'0').filter(|digit| *digit < 10)
+    let digit = byte.wrapping_sub(b'0');
+    (digit < 10).then_some(digit)
 }
 
 // The number that the whole of `bytes` spells in decimal: no leading zero, at most 65,535.
@@ -29,8 +30,8 @@ fn digits(bytes: &[u8]) -> Option<u16>
 {
     let mut number: u16 = 0;
     for byte in bytes {
-        let digit = digit(*byte)?;
-        number = number.checked_mul(10)?.checked_add(u16::from(digit))?;
+        let next = u32::from(number) * 10 + u32::from(digit(*byte)?);
+        number = u16::try_from(next).ok()?;
     }
     Some(number)
 }
