@@ -65,6 +65,7 @@ impl<'a> Cells<'a> {
     pub fn cut(&mut self, kept: usize)
         ensures after { held self.new ≡ take kept (held self.old) }
         ensures room { room self.new ≡ room self.old }
+        ensures same { self.new.numbers.now ≡ self.old.numbers.now }
     {
         let mut used = 0;
         for clause in self.clauses().take(kept) {

@@ -3,6 +3,7 @@ pub mod Cells
 pub mod Trails
 pub mod Reasons
 pub mod Searches
+pub mod Columns
 pub mod States
 pub mod Passes
 pub mod Blames

@@ -24,6 +24,29 @@ pub struct Trail<'a> {
     ghost based: { base ≤ count },
 }
 
+// The lent columns of a trail that is not made yet; their numbers may be any.
+#[derive(Drop)]
+pub struct Columns<'a> {
+    pub value: &'a mut [u32],
+    pub literals: &'a mut [u32],
+    pub reasons: &'a mut [u32],
+    ghost literal_room: { length literals.now ≡ length value.now },
+    ghost reason_room: { length reasons.now ≡ length value.now },
+}
+
+impl<'a> Columns<'a> {
+    // Columns without a place.
+    pub fn none() -> Columns<'a>
+        ensures { length result.value.now ≡ 0 }
+    {
+        Columns {
+            value: &mut [],
+            literals: &mut [],
+            reasons: &mut [],
+        }
+    }
+}
+
 // The literal of the same variable and the other sign.
 fn negated(literal: u32) -> u32
     ensures { result ≡ negation literal }
@@ -35,11 +58,15 @@ impl<'a> Trail<'a> {
     ghost use Rattle.splitting.specs.Searches.{Writes};
 
     // No literal is true.
-    pub fn new(value: &'a mut [u32], literals: &'a mut [u32], reasons: &'a mut [u32]) -> Trail<'a>
-        requires literal_room { length literals.old ≡ length value.old }
-        requires reason_room { length reasons.old ≡ length value.old }
-        ensures { length result.value.now ≡ length value.old }
+    pub fn new(columns: Columns<'a>) -> Trail<'a>
+        ensures size { length result.value.now ≡ length columns.entry.value.now }
+        ensures count { result.count ≡ 0 }
     {
+        let Columns {
+            value,
+            literals,
+            reasons,
+        } = columns;
         value.fill(0);
         Trail {
             value,

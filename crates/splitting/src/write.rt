@@ -10,7 +10,8 @@ use literal::Literal;
 impl<'a> Splitting<'a> {
     // Writes a byte for each variable, 1 where it is true, and 0 into byte 0.
     pub(crate) fn write(&self, values: &mut [u8])
-        requires { self.now.variables < length values.old }
+        requires made { self.now.columns ≡ None }
+        requires room { self.now.variables < length values.old }
         ensures { Valued self.now.trail.value.now self.now.variables values.old values.new }
     {
         values[0] = 0;
