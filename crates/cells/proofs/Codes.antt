@@ -1,12 +1,12 @@
 -- Clauses in cells: what they hold is what was put there, clause by clause.
 use Rattle.std.proofs.Common.{◌≡◌, ℕ, zero, suc, ◌+◌, ◌≤◌, ◌||◌, List, [], ◌∷◌, ◌++◌, map, length, take, drop, sym, refl, ap, ◌∙◌, inl, inr, subst, arith}
-use Rattle.std.proofs.lemmas.List.{take_at, drop_at, length-append, length-map, append_assoc, get_or-take, get_or-drop, get_or_past, length-take}
+use Rattle.std.proofs.lemmas.List.{take_at, drop_at, length-append, length-map, append_assoc, take-append-drop, append_cancel_right, get_or-take, get_or-drop, get_or_past, length-take}
 use Rattle.std.proofs.lemmas.Bool.{cases_lt}
 use Rattle.literal.specs.declared.Literal.{Literal}
 use Rattle.std.specs.List.{list_any}
 use Rattle.literal.specs.Truth.{Values, truth}
 use Rattle.sat.specs.Clauses.{any_true, cells_of}
-use Rattle.cells.specs.Cells.{codes, literal, literals, flat, decode, clauses, Coded, Small}
+use Rattle.cells.specs.Cells.{codes, literal, literals, flat, decode, clauses, Coded, Small, Starts}
 
 pub literals_codes : (ls : List Literal) → literals (codes ls) ≡ ls
 literals_codes [] = refl
@@ -89,6 +89,14 @@ pub parted : (cells : List ℕ) (n : ℕ) (rest : List ℕ) → cells ≡ n ∷ 
 parted cells n rest e f s =
     let P : List ℕ → Type 0 = λ x. Small x in
     parted_from (clauses cells) cells n rest refl (f ∙ e) (small_tail n rest (subst P e s))
+
+-- the cells before a clause are those of the clauses before it
+pub front_of : (cells : List ℕ) (p j : ℕ) → flat (clauses cells) ≡ cells → Starts cells p j → take p cells ≡ flat (take j (clauses cells))
+front_of cells p j e s =
+    let a : take p cells ++ drop p cells ≡ cells = take-append-drop p cells in
+    let b : flat (take j (clauses cells) ++ drop j (clauses cells)) ≡ cells = ap flat (take-append-drop j (clauses cells)) ∙ e in
+    let d : flat (take j (clauses cells)) ++ flat (drop j (clauses cells)) ≡ cells = sym (flat_append (take j (clauses cells)) (drop j (clauses cells))) ∙ b in
+    append_cancel_right (take p cells) (flat (take j (clauses cells))) (drop p cells) (a ∙ sym d ∙ ap (λ x. flat (take j (clauses cells)) ++ x) (sym s))
 
 -- a clause's truth, code by code
 pub any_literals : (v : Values) (ns : List ℕ) → any_true v (literals ns) ≡ list_any (λ n. truth v (literal n)) ns

@@ -16,6 +16,11 @@ use Rattle.host.specs.declared.exchange.Exchange.{Exchange}
 use Rattle.host.specs.declared.exchange.Reply.{Reply}
 use Rattle.host.specs.declared.exchange.Reply.TheVariants.{Raised, Used, Replaced, Restarted, Refused, NotAllowed}
 
+module _ (g : Arena) (rs : List Row) where
+  -- a reset leads to state 0
+  pub reset_back : {s : ℕ} {u : Stage} → Gives g rs (waiting s) resetting done u → u ≡ waiting 0
+  reset_back (sessions.back s n) = refl
+
 -- the refusal of a number
 abbrev fault_of : ℕ → SessionFault
 fault_of n = cond (eqb n (session_number Foreign)) Foreign OutOfRange

@@ -7,7 +7,7 @@ ghost use Rattle.host.specs.declared.answer.Session.TheVariants as stage;
 
 use crate::exchange::{Call, Reply};
 use region::Region;
-use session::{Raised, Refusal, Staged, Waiting};
+use session::{Raised, Refusal, Waiting};
 
 // A session that waits, or has an event raised.
 #[derive(Drop)]

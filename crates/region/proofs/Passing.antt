@@ -2,8 +2,9 @@
 use Rattle.std.proofs.Common.{refl, is_some, option_map, ◌≡◌, ℕ, ◌<◌, ◌≤◌, true, false, List, Some, None, Option, inl, inr, arith}
 use Rattle.std.proofs.lemmas.Bool.{cases_lt}
 use Rattle.std.proofs.lemmas.Bool.Decides.{nat_tests}
-use Rattle.game.specs.Game.{Arena}
+use Rattle.game.specs.Game.{Arena, InRange, Safe}
 use Rattle.game.specs.Rows.{covered, good}
+use Rattle.game.specs.Runs.{Exact}
 use Rattle.game.specs.declared.row.Row.{Row}
 use Rattle.game.proofs.Answers.{exact_answered}
 use Rattle.game.proofs.Covered.{good_parts, not_good}
@@ -33,6 +34,17 @@ module _ (g : Arena) (rs : List Row) (s e a : ℕ) where
   pub none_parts : None ≡ passing g rs s e a → s < g.states → e < g.events → a < g.answers → good g rs s e a ≡ false
   none_parts h ls le la = grind (arith, nat_tests)
 
+  -- what the equation of a step says of safety
+  pub judged : InRange g → Exact g rs → (r : Option ℕ) → r ≡ passing g rs s e a → Passes g s e a r
+  judged in_range ex (Some n) h =
+      let w = some_parts n h in
+      let b = within_parts g s e a w.0 in
+      let p = good_parts g rs s e a w.1 in
+      let safe : Safe g (g.next s e a) = ex.safe (g.next s e a) (in_range s e a b.0 b.1 b.2) p.1 in
+      (w.2, p.0, rw w.2 safe)
+  judged in_range ex None h =
+      λ ls le la. elim (not_good g rs s e a (none_parts h ls le la)) [ inl b ↦ inl b | inr c ↦ inr (ex.lost (g.next s e a) (in_range s e a ls le la) c) ]
+
   -- an answer that passes, with the state to which it leads
   abbrev pub found : Option Passed
   found = option_map (λ n. record { answer = a; next = n }) (passing g rs s e a)
@@ -42,27 +54,22 @@ module _ (g : Arena) (rs : List Row) (s e : ℕ) where
   lowest None f = λ b. elim (cases_lt b g.answers) [ inl l ↦ grind (arith, f b l) | inr l ↦ passing_past g rs s e b l ]
   lowest (Some p) f = grind arith
 
+-- at an uncovered state some step passes
+pub some_passes : (g : Arena) → InRange g → (rs : List Row) → Exact g rs → (s e : ℕ) → s < g.states → e < g.events
+    → covered rs s ≡ false → ((b : ℕ) → passing g rs s e b ≡ None) → ⊥
+some_passes g in_range rs ex s e ls le c none =
+    let w = exact_answered g in_range rs ex s e ls le c in
+    let p = passing_good g rs s e w.0 ls le w.1 w.2 in
+    let n = none w.0 in
+    cc
+
 module _ (r : Region) (s e : ℕ) where
-  -- what the equation of a step says of safety
-  pub judged : (a : ℕ) (o : Option ℕ) → o ≡ passing (arena_in r) (rows_in r) s e a → Passes (arena_in r) s e a o
-  judged a (Some n) h =
-      let w = some_parts (arena_in r) (rows_in r) s e a n h in
-      let b = within_parts (arena_in r) s e a w.0 in
-      let p = good_parts (arena_in r) (rows_in r) s e a w.1 in
-      let safe = (region_exact r).safe ((arena_in r).next s e a) ((region_playable r).in_range s e a b.0 b.1 b.2) p.1 in
-      (w.2, p.0, rw w.2 safe)
-  judged a None h =
-      λ ls le la. elim (not_good (arena_in r) (rows_in r) s e a (none_parts (arena_in r) (rows_in r) s e a h ls le la)) [
-        | inl b ↦ inl b
-        | inr c ↦ inr ((region_exact r).lost ((arena_in r).next s e a) ((region_playable r).in_range s e a ls le la) c)
-      ]
+  -- on a region's own arena and rows
+  pub region_judged : (a : ℕ) (o : Option ℕ) → o ≡ passing (arena_in r) (rows_in r) s e a → Passes (arena_in r) s e a o
+  region_judged a = judged (arena_in r) (rows_in r) s e a (region_playable r).in_range (region_exact r)
 
   -- at an uncovered state some answer passes
   pub answered : (o : Option Passed) → Lowest (arena_in r) (rows_in r) s e o
       → s < (arena_in r).states → e < (arena_in r).events → covered (rows_in r) s ≡ false → is_some o ≡ true
   answered (Some p) h ls le c = refl
-  answered None h ls le c =
-      let w = exact_answered (arena_in r) (region_playable r).in_range (rows_in r) (region_exact r) s e ls le c in
-      let p = passing_good (arena_in r) (rows_in r) s e w.0 ls le w.1 w.2 in
-      let n = h w.0 in
-      cc
+  answered None h ls le c = absurd (some_passes (arena_in r) (region_playable r).in_range (rows_in r) (region_exact r) s e ls le c h)

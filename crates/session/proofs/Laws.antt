@@ -166,16 +166,20 @@ module _ (g : Arena) (playable : Playable g) (rs : List Row) (ex : Exact g rs) (
       → Gives g rs t c o after → Gives g rs' t' c o' after' → (o ≡ o') × (after ≡ after')
   one_answer i h h' q q' = let h₂ = rw i at h in let q₂ = rw i at q in one_way_lem g rs' (carry h₂ h' q₂) q'
 
-  alike : {cs : List Call} {os os' : List Reply} {t t' : Stage} → History g rs cs os t → History g rs' cs os' t' → (os ≡ os') × (t ≡ t')
+  pub alike : {cs : List Call} {os os' : List Reply} {t t' : Stage} → History g rs cs os t → History g rs' cs os' t' → (os ≡ os') × (t ≡ t')
   alike opened opened = (refl, refl)
   alike (more p q) (more p' q') =
       let w = alike p p' in
       let v = one_answer w.1 (home g playable rs ex p) (home g playable rs' ex' p') q q' in
       (cc (v.0, w.0), v.1)
 
-pub law : (r : Region) → Law (arena_in r) (rows_in r)
-law r =
+pub law : (g : Arena) → Playable g → (rs : List Row) → Exact g rs → Law g rs
+law g playable rs ex =
     record {
-      promise = promise (arena_in r) (region_playable r) (rows_in r) (region_exact r);
-      alike = λ rs' ex' cs os os' t t' p p'. alike (arena_in r) (region_playable r) (rows_in r) (region_exact r) rs' ex' p p';
+      promise = promise g playable rs ex;
+      alike = λ rs' ex' cs os os' t t' p p'. alike g playable rs ex rs' ex' p p';
     }
+
+-- on a region's own arena and rows
+pub region_law : (r : Region) → Law (arena_in r) (rows_in r)
+region_law r = law (arena_in r) (region_playable r) (rows_in r) (region_exact r)

@@ -11,6 +11,16 @@ pub struct Waiting {
     pub(crate) state: u32,
 }
 
+impl Waiting {
+    // The state at which the session waits.
+    pub fn state(&self) -> u32
+        ensures { result ≡ self.now.state }
+    {
+        let Waiting { state } = self;
+        *state
+    }
+}
+
 // An event is raised: the session allows settle alone.
 #[derive(Drop, Debug)]
 pub struct Raised {
@@ -19,6 +29,13 @@ pub struct Raised {
 }
 
 impl Raised {
+    // The state in which the event was raised.
+    pub fn state(&self) -> u32
+        ensures { result ≡ self.now.state }
+    {
+        self.state
+    }
+
     pub fn event(&self) -> u32
         ensures { result ≡ self.now.event }
     {

@@ -26,7 +26,7 @@ impl Staged for Waiting {
     ghost stage = { waiting_stage };
 
     fn state(&self) -> u32 {
-        self.state
+        Waiting::state(self)
     }
 
     fn is_home(&self, region: &Region<'_>) -> bool {
@@ -38,7 +38,7 @@ impl Staged for Raised {
     ghost stage = { raised_stage };
 
     fn state(&self) -> u32 {
-        self.state
+        Raised::state(self)
     }
 
     fn is_home(&self, region: &Region<'_>) -> bool {

@@ -70,6 +70,16 @@ contrary assumed value trail seen n i l k f s h t a =
       seen_one = omega (arith, ap (λ x. get_or (set seen (l / 2) 1) x 0) v, get_or-set_same seen (l / 2) 1 0 t);
     }
 
+-- contrary assumptions have no model
+pub contrary_refutes : (cells seen assumed : List ℕ) → Contrary assumed seen → Refutes cells seen assumed
+contrary_refutes cells seen assumed w m d given =
+    let a = get_or assumed w.one 0 in
+    let b = get_or assumed w.other 0 in
+    let x = given w.one w.one_below w.seen_one in
+    let y = given w.other w.other_below (omega (arith, w.seen_one, ap (λ v. get_or seen v 0) w.variable)) in
+    let e : m (a / 2) ≡ m (b / 2) = ap m w.variable in
+    w.differ (omega (arith, x, y, e, w.variable))
+
 -- the trail's first places for the assumptions
 pub refutes_trail : (cells seen trail : List ℕ) (ls : List Literal) (n : ℕ) → Assumed (codes ls) trail n (length ls)
     → ((m : ℕ → ℕ) → Models cells m → SeenTrue m trail seen n → ⊥) → Refutes cells seen (codes ls)
