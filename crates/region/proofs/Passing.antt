@@ -1,8 +1,9 @@
 -- Which steps pass.
-use Rattle.std.proofs.Common.{refl, is_some, option_map, ◌≡◌, ℕ, ◌<◌, ◌≤◌, true, false, List, Some, None, Option, inl, inr, arith}
+use Rattle.std.proofs.Common.{refl, is_some, option_map, ◌≡◌, ℕ, ◌<◌, ◌≤◌, Bool, true, false, List, Some, None, Ok, Option, inl, inr, arith}
 use Rattle.std.proofs.lemmas.Bool.{cases_lt}
 use Rattle.std.proofs.lemmas.Bool.Decides.{nat_tests}
 use Rattle.game.specs.Game.{Arena, InRange, Safe}
+use Rattle.game.specs.Models.{step_in}
 use Rattle.game.specs.Rows.{covered, good}
 use Rattle.game.specs.Runs.{Exact}
 use Rattle.game.specs.declared.row.Row.{Row}
@@ -18,6 +19,13 @@ use Rattle.region.proofs.FirstFound.{FirstFound}
 module _ (g : Arena) (s e a : ℕ) where
   pub within_parts : within g s e a ≡ true → (s < g.states) × (e < g.events) × (a < g.answers)
   within_parts h = grind (arith, nat_tests)
+
+  pub within_from : s < g.states → e < g.events → a < g.answers → within g s e a ≡ true
+  within_from ls le la = grind (arith, nat_tests)
+
+  -- what an answered step says of the numbers
+  pub step_ok : (b : Bool) (n : ℕ) → Ok (b, n) ≡ step_in g s e a → (within g s e a ≡ true) × (b ≡ g.bad s e a) × (n ≡ g.next s e a)
+  step_ok b n h = grind (arith, nat_tests)
 
 module _ (g : Arena) (rs : List Row) (s e a : ℕ) where
   pub passing_good : s < g.states → e < g.events → a < g.answers → good g rs s e a ≡ true → passing g rs s e a ≡ Some (g.next s e a)
