@@ -36,7 +36,7 @@ fn follow(region: &Region<'_>, exchanges: &mut [Exchange])
 }
 
 // Decides whether the host can keep its rules for ever from reset, and where it can serves the calls on a session.
-#[tactic(auto, using(crate::proofs::OneTelling::served_alike))]
+#[tactic(auto, using(crate::proofs::OneTelling::served_alike, crate::proofs::Judging::judged, crate::proofs::Judging::attended))]
 pub fn serve<C: NarrowingSolver, A: NarrowingSolver>(
     model: &Model<'_>,
     candidate: &mut C,
