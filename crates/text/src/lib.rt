@@ -41,17 +41,10 @@ pub fn cut<'a>(bytes: &'a [u8], mark: u8) -> Option<(&'a [u8], &'a [u8])>
     ensures value { parts_of result ≡ cut_at mark bytes.now }
     ensures law { CutLaw mark bytes.now (parts_of result) }
 {
-    let place = place_of(bytes, mark)?;
-    Some((&bytes[..place], &bytes[place + 1..]))
-}
-
-fn place_of(bytes: &[u8], mark: u8) -> Option<usize>
-    ensures { result ≡ position (λ x. x == mark) bytes.now }
-{
     // A loop: `position` takes half as long again on long lines.
     for (place, byte) in bytes.iter().enumerate() {
         if *byte == mark {
-            return Some(place);
+            return Some((&bytes[..place], &bytes[place + 1..]));
         }
     }
     None
