@@ -16,7 +16,7 @@ pub codes_literals : (ns : List ℕ) → codes (literals ns) ≡ ns
 codes_literals [] = refl
 codes_literals (n ∷ ns) = ap (λ x. n ∷ x) (codes_literals ns)
 
-decode_flat : (f : ℕ) (cs : List (List ℕ)) → length (flat cs) ≤ f → decode f (flat cs) ≡ cs
+pub decode_flat : (f : ℕ) (cs : List (List ℕ)) → length (flat cs) ≤ f → decode f (flat cs) ≡ cs
 decode_flat zero [] h = refl
 decode_flat (suc f) [] h = refl
 decode_flat zero (c ∷ cs) h = absurd (omega arith)

@@ -40,13 +40,13 @@ small_cons : (n : ℕ) (xs : List ℕ) → n < 65536 → Small xs → Small (n �
 small_cons n xs h s zero = h
 small_cons n xs h s (suc k) = s k
 
-small_join : (a b : List ℕ) → Small a → Small b → Small (a ++ b)
+pub small_join : (a b : List ℕ) → Small a → Small b → Small (a ++ b)
 small_join a b h g k = elim (cases_lt k (length a)) [
   | inl l ↦ omega (arith, h k, get_or_append_left a b 0 k l)
   | inr m ↦ omega (arith, g (k - length a), get_or-append_right a b (length a) k 0 refl m)
 ]
 
-small_left : (a b : List ℕ) → Small (a ++ b) → Small a
+pub small_left : (a b : List ℕ) → Small (a ++ b) → Small a
 small_left a b h k = elim (cases_lt k (length a)) [
   | inl l ↦ omega (arith, h k, get_or_append_left a b 0 k l)
   | inr g ↦ omega (arith, get_or_past a k 0 g)

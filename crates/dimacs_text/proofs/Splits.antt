@@ -56,7 +56,7 @@ lined_on b bs true r e w = cond-true _ _ _ e
 lined_on b bs false None e w = cond-false _ _ _ e ∙ ap (extend b) w
 lined_on b bs false (Some p) e w = cond-false _ _ _ e ∙ ap (extend b) w
 
-lined : (bs : List ℕ) → Lined bs (cut_at 10 bs)
+pub lined : (bs : List ℕ) → Lined bs (cut_at 10 bs)
 lined [] = refl
 lined (b ∷ bs) = lined_on b bs (eqb b 10) (cut_at 10 bs) refl (lined bs)
 

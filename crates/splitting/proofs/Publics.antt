@@ -24,19 +24,19 @@ use Rattle.splitting.specs.declared.solver.Splitting.{Splitting}
 use Rattle.splitting.specs.Written.{Valued, MarkedBy}
 
 -- truth under values, literal by literal
-any_from : (v : Values) (c : List ℕ) (k : ℕ) → k < length c → truth v (literal (get_or c k 0)) ≡ true → any_true v (literals c) ≡ true
+pub any_from : (v : Values) (c : List ℕ) (k : ℕ) → k < length c → truth v (literal (get_or c k 0)) ≡ true → any_true v (literals c) ≡ true
 any_from v c k h e = any_literals v c ∙ list_any_at (λ n. truth v (literal n)) c k 0 h e
 
-any_to : (v : Values) (c : List ℕ) → any_true v (literals c) ≡ true → (k : ℕ) × ((k < length c) × (truth v (literal (get_or c k 0)) ≡ true))
+pub any_to : (v : Values) (c : List ℕ) → any_true v (literals c) ≡ true → (k : ℕ) × ((k < length c) × (truth v (literal (get_or c k 0)) ≡ true))
 any_to v c e =
     let w = Any-from_list_any (λ n. truth v (literal n)) c (sym (any_literals v c) ∙ e) in
     (w.0, (w.2, ap (λ n. truth v (literal n)) (get_or_default c w.0 0 w.1 w.2 ∙ w.3) ∙ w.4))
 
-satisfies_from : (v : Values) (cs : List (List ℕ)) → ((j : ℕ) → j < length cs → any_true v (literals (get_or cs j [])) ≡ true) → satisfies v (map literals cs) ≡ true
+pub satisfies_from : (v : Values) (cs : List (List ℕ)) → ((j : ℕ) → j < length cs → any_true v (literals (get_or cs j [])) ≡ true) → satisfies v (map literals cs) ≡ true
 satisfies_from v cs h =
     list_all-map (any_true v) literals cs ∙ list_all-from_AllPass (λ c. any_true v (literals c)) cs (All-from_get_or (λ c. any_true v (literals c) ≡ true) cs [] h)
 
-satisfies_to : (v : Values) (cs : List (List ℕ)) → satisfies v (map literals cs) ≡ true → (j : ℕ) → j < length cs → any_true v (literals (get_or cs j [])) ≡ true
+pub satisfies_to : (v : Values) (cs : List (List ℕ)) → satisfies v (map literals cs) ≡ true → (j : ℕ) → j < length cs → any_true v (literals (get_or cs j [])) ≡ true
 satisfies_to v cs e j h = AllPass-from_list_all (λ c. any_true v (literals c)) cs (sym (list_all-map (any_true v) literals cs) ∙ e) j [] h
 
 all_from : (v : Values) (ls : List Literal) → ((k : ℕ) → k < length ls → truth v (literal (get_or (codes ls) k 0)) ≡ true) → all_true v ls ≡ true

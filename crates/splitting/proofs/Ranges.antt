@@ -12,7 +12,7 @@ use Rattle.splitting.specs.declared.solver.Splitting.{Splitting}
 pub range_within : (V : ℕ) (ls : List Literal) → in_range V ls ≡ true → Within (codes ls) V
 range_within V ls e = range_code V (codes ls) (ap (in_range V) (literals_codes ls) ∙ e)
 
-within_table : (c : List ℕ) (V size : ℕ) → V ≤ size - 1 → Within c V → InTable c size
+pub within_table : (c : List ℕ) (V size : ℕ) → V ≤ size - 1 → Within c V → InTable c size
 within_table c V size h w k b = omega (arith, (w k b).0, (w k b).1)
 
 pub range_table : (V size : ℕ) (ls : List Literal) → V ≤ size - 1 → in_range V ls ≡ true → InTable (codes ls) size

@@ -49,7 +49,7 @@ close_place : (q k x : ℕ) (ds : List ℕ) → k % 2 ≡ 1 → x % 2 ≡ 0 → 
 close_place q k x ds o z =
     omega (arith, weight_pos (q - 1) ds, digit_one (k % 2) (3 ^ (q - 1)) o, digit_none (x % 2) (3 ^ (q - 1)) z)
 
-less_more : (reason reason' : List ℕ) (n x : ℕ) → n < length reason → reason' ≡ set reason n x → left reason' (n + 1) < left reason n
+pub less_more : (reason reason' : List ℕ) (n x : ℕ) → n < length reason → reason' ≡ set reason n x → left reason' (n + 1) < left reason n
 less_more reason reason' n x h e =
     let q : length reason ≡ length (take n reason) + (length reason - n) = omega (arith, length-take-le n reason (omega arith)) in
     let w : weight (length reason) (take n reason ++ x ∷ []) < weight (length reason) (take n reason ++ [])
@@ -61,7 +61,7 @@ less_more reason reason' n x h e =
 split_at : (reason : List ℕ) (i n : ℕ) → i < n → n ≤ length reason → take n reason ≡ take i reason ++ get_or reason i 0 ∷ drop (i + 1) (take n reason)
 split_at reason i n a b = grind (arith, common_steps)
 
-less_closed : (reason reason' : List ℕ) (i n x : ℕ) → i < n → n ≤ length reason → get_or reason i 0 % 2 ≡ 1 → x % 2 ≡ 0
+pub less_closed : (reason reason' : List ℕ) (i n x : ℕ) → i < n → n ≤ length reason → get_or reason i 0 % 2 ≡ 1 → x % 2 ≡ 0
     → reason' ≡ set reason i x → left reason' (i + 1) < left reason n
 less_closed reason reason' i n x a b o s e =
     let h : i < length reason = omega arith in
