@@ -1,7 +1,8 @@
 // Numbers and fields of a line of text, as the file readers need them.
 #![tactic(auto)]
 
-ghost use Rattle.std.specs.Prelude.{◌≡◌, ◌==◌, position};
+ghost use Rattle.std.specs.Prelude.{◌≡◌, ◌==◌, ◌≤◌, length};
+ghost use Rattle.std.specs.List.{position_or_len};
 ghost use Rattle.text.specs.Number.{digit_of, read_on, number_of, Spelled};
 ghost use Rattle.text.specs.Cut.{cut_at, parts_of, taken_of, field_of, CutLaw, FieldLaw};
 
@@ -41,13 +42,24 @@ pub fn cut<'a>(bytes: &'a [u8], mark: u8) -> Option<(&'a [u8], &'a [u8])>
     ensures value { parts_of result ≡ cut_at mark bytes.now }
     ensures law { CutLaw mark bytes.now (parts_of result) }
 {
-    // A loop: `position` takes half as long again on long lines.
+    let place = place_of(bytes, mark);
+    if place == bytes.len() {
+        return None;
+    }
+    Some((&bytes[..place], &bytes[place + 1..]))
+}
+
+// The place of the first `mark`, or the length. A loop, and no `position`: that takes half as long again on long lines.
+fn place_of(bytes: &[u8], mark: u8) -> usize
+    ensures value { result ≡ position_or_len (λ x. x == mark) bytes.now }
+    ensures bound { result ≤ length bytes.now }
+{
     for (place, byte) in bytes.iter().enumerate() {
         if *byte == mark {
-            return Some((&bytes[..place], &bytes[place + 1..]));
+            return place;
         }
     }
-    None
+    bytes.len()
 }
 
 // The number before the first space, and what stands after that space.

@@ -1,12 +1,17 @@
-use Rattle.std.proofs.Common.{rules}
-use Rattle.text.proofs.Cuts.{cut_more, cut_found, cut_end, cut_law}
+use Rattle.std.proofs.Common.{◌+◌, Some, take, ap, ◌∙◌, arith}
+use Rattle.std.proofs.lemmas.List.{take_rest}
+use Rattle.text.proofs.Cuts.{cut_law, cut_at_place, cut_nowhere}
 use Rattle.text.proofs.cut.Goals as goal
 
-pub returns-then-byte-mark : goal.returns-then-byte-mark
-returns-then-byte-mark c = search (rules, cut_found, cut_law)
-
-pub loop-place-preserved : goal.loop-place-preserved
-loop-place-preserved c = search (rules, cut_more)
+pub returns-then-place-bytes : goal.returns-then-place-bytes
+returns-then-place-bytes c =
+    let i = c.place_of-place.result in
+    let none = cut_nowhere c.args.mark c.args.bytes.now i c.place_of-place.ensures.value (omega (arith, c.if-place-bytes)) in
+    record { value = none; law = cut_law c.args.mark c.args.bytes.now _ none }
 
 pub returns : goal.returns
-returns c = search (rules, cut_end, cut_law)
+returns c =
+    let i = c.place_of-place.result in
+    let some = ap (λ t. Some (record { front = take i c.args.bytes.now; back = t })) (take_rest c.args.bytes.now (i + 1))
+    ∙ cut_at_place c.args.mark c.args.bytes.now i c.place_of-place.ensures.value (omega (arith, c.if-place-bytes, c.place_of-place.ensures.bound)) in
+    record { value = some; law = cut_law c.args.mark c.args.bytes.now _ some }
