@@ -103,9 +103,9 @@ module _ (l : Lent) (t : Turning l) where
       )
 
   module _ (row : Row) (fine : GoodRow (arena l) (items_of l.rows) row) (rows' : Roll Row) (more : Grown l.rows row rows') (xs' : Roll Exception)
-      (e : items_of xs' ≡ []) (c a : Meaning) where
+      (e : items_of xs' ≡ []) (c a : Meaning) (w : List ℕ) where
     abbrev next : Lent
-    next = lent l.model rows' xs' c a l.work
+    next = lent l.model rows' xs' c a w
 
     same_places : length (table_of rows') ≡ places_of l
     same_places = ap length more.places ∙ length-set (table_of l.rows) (length (items_of l.rows)) row
@@ -187,9 +187,9 @@ module _ (l : Lent) (t : Turning l) where
 
   -- the next turn begins with an exception more
   pub exception_turning : (x : Exception) → GoodException (arena l) (items_of l.rows) (items_of l.exceptions) x → (xs' : Roll Exception)
-      → Grown l.exceptions x xs' → (c : Meaning) → c.clauses ≡ l.candidate.clauses ++ (exception_clause (record_of l) x ∷ [])
-      → Turned l (lent l.model l.rows xs' c l.answer l.work) (Ok None)
-  exception_turning x fine xs' more c h =
+      → Grown l.exceptions x xs' → (c a : Meaning) (w : List ℕ) → c.clauses ≡ l.candidate.clauses ++ (exception_clause (record_of l) x ∷ [])
+      → a ≡ l.answer → Turned l (lent l.model l.rows xs' c a w) (Ok None)
+  exception_turning x fine xs' more c a w h same =
       let r = record_of l in
       let gs = gates_of l in
       let X : List Exception → Type 0 = λ ys. GoodExceptions (arena l) (items_of l.rows) ys in (
@@ -200,7 +200,7 @@ module _ (l : Lent) (t : Turning l) where
           reset_open = t.reset_open;
           candidate = h ∙ ap (λ cs. cs ++ (exception_clause r x ∷ [])) t.candidate ∙ candidate_exception r gs (items_of l.rows) (items_of l.exceptions) x
               ∙ ap (candidate_clauses r gs (items_of l.rows)) (sym more.used);
-          answer = t.answer;
+          answer = ap (λ m. m.clauses) same ∙ t.answer;
         },
         inr (refl, ap length more.used ∙ length_push (items_of l.exceptions) x),
       )
