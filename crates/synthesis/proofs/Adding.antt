@@ -2,7 +2,7 @@
 use Rattle.std.proofs.Common.{◌≡◌, ℕ, ◌+◌, ◌-◌, ◌*◌, ◌<◌, ◌≤◌, Bool, true, false, ◌||◌, List, [], ◌∷◌, ◌++◌, length, is_ok, Some, None, Ok, Err, Result, take, replicate, sym, refl, ap, ◌∙◌, subst, inl, inr, arith}
 use Rattle.std.specs.Bool.{then_some}
 use Rattle.std.proofs.lemmas.Bool.{both_ways}
-use Rattle.std.proofs.lemmas.List.{length-take, length-set, length_push, append-nil}
+use Rattle.std.proofs.lemmas.List.{length-take, length-set, length-replicate, length_push, append-nil}
 use Rattle.circuit.specs.declared.record.Gate.{Gate}
 use Rattle.circuit.specs.declared.record.Record.{Record}
 use Rattle.sat.specs.Clauses.{Meaning, cells_of, with_clauses}
@@ -10,7 +10,7 @@ use Rattle.encoding.specs.Holding.{Whole}
 use Rattle.roll.specs.declared.roll.Roll.{Roll}
 use Rattle.roll.specs.declared.fault.RollFault.{RollFault}
 use Rattle.roll.specs.Rolls.{items_of, table_of, Grown, NoPlace, Appended}
-use Rattle.game.specs.Rows.{blank_row, row_covers, covered, GoodRow, GoodRows, GoodException, GoodExceptions, RowDue, ExceptionDue}
+use Rattle.game.specs.Rows.{blank_row, blank_exception, row_covers, covered, GoodRow, GoodRows, GoodException, GoodExceptions, RowDue, ExceptionDue}
 use Rattle.game.specs.Runs as runs
 use Rattle.game.specs.declared.exception.Exception.{Exception}
 use Rattle.game.specs.declared.row.Row.{Row}
@@ -54,7 +54,7 @@ module _ (l : Lent) (room : Roomy l) (items : List Row) (xs : List Exception) wh
   abbrev gs : List Gate
   gs = gates_of l
 
-  fixed_cells : length items ≤ places_of l → cells_of (fixed_clauses r gs items) ≤ candidate_base_cells r + candidate_row_cells r * length items
+  pub fixed_cells : length items ≤ places_of l → cells_of (fixed_clauses r gs items) ≤ candidate_base_cells r + candidate_row_cells r * length items
   fixed_cells h =
       let f = ((candidate_fits r gs l.model.fit l.candidate.variables (omega (arith, room.candidate_variables)) (places_of l) room.candidate_variables).all items [] h).few in
       let e : cells_of (candidate_clauses r gs items []) ≡ cells_of (fixed_clauses r gs items) = ap cells_of (candidate_fixed r gs items [] ∙ append-nil (fixed_clauses r gs items)) in
@@ -74,7 +74,7 @@ module _ (l : Lent) (room : Roomy l) (items : List Row) (xs : List Exception) wh
       omega (arith, room.answer_cells)
 
   -- and for one exception more
-  exception_cells_lem : length items ≤ places_of l → length xs < exception_places_of l → cells_of (candidate_clauses r gs items xs) + exception_cells r ≤ l.candidate.cells
+  pub exception_cells_lem : length items ≤ places_of l → length xs < exception_places_of l → cells_of (candidate_clauses r gs items xs) + exception_cells r ≤ l.candidate.cells
   exception_cells_lem h k =
       let f = ((candidate_fits r gs l.model.fit l.candidate.variables (omega (arith, room.candidate_variables)) (places_of l) room.candidate_variables).all items xs h).few in
       let p = as_many (candidate_row_cells r) (length items) (places_of l) h in
@@ -103,18 +103,23 @@ module _ (l : Lent) (t : Turning l) where
       )
 
   module _ (row : Row) (fine : GoodRow (arena l) (items_of l.rows) row) (rows' : Roll Row) (more : Grown l.rows row rows') (xs' : Roll Exception)
-      (e : items_of xs' ≡ []) (c a : Meaning) where
+      (e : items_of xs' ≡ []) (c a : Meaning) (w : List ℕ) where
     abbrev next : Lent
-    next = lent l.model rows' xs' c a l.work
+    next = lent l.model rows' xs' c a w
 
     same_places : length (table_of rows') ≡ places_of l
     same_places = ap length more.places ∙ length-set (table_of l.rows) (length (items_of l.rows)) row
 
-    row_laid : Laid next
-    row_laid =
+    row_blank : Laid next
+    row_blank =
         more.places ∙ laid_more blank_row (table_of l.rows) (items_of l.rows) (places_of l) row more.free t.laid
         ∙ ap (λ is. is ++ replicate (places_of l - length is) blank_row) (sym more.used)
         ∙ ap (λ k. items_of rows' ++ replicate (k - length (items_of rows')) blank_row) (sym same_places)
+
+    -- as many places as before, and those past the rows are blank
+    pub row_laid : table_of xs' ≡ replicate (exception_places_of l) blank_exception
+        → (places_of next ≡ places_of l) × (exception_places_of next ≡ exception_places_of l) × Laid next
+    row_laid q = (same_places, ap length q ∙ length-replicate (exception_places_of l) blank_exception, row_blank)
 
     row_rows : GoodRows (arena l) (items_of rows')
     row_rows = let P : List Row → Type 0 = λ is. GoodRows (arena l) is in subst P (sym more.used) (rows_push (arena l) (items_of l.rows) row t.good_rows fine)
@@ -129,7 +134,7 @@ module _ (l : Lent) (t : Turning l) where
         let gs = gates_of l in
         let X : List Exception → Type 0 = λ ys. GoodExceptions (arena l) (items_of rows') ys in (
           record {
-            laid = row_laid;
+            laid = row_blank;
             good_rows = row_rows;
             good_exceptions = subst X (sym e) (exceptions_none (arena l) (items_of rows'));
             reset_open = ap (λ is. covered is 0) more.used ∙ covered-++ (items_of l.rows) (row ∷ []) 0 ∙ ap (λ b. b || (row_covers row 0 || false)) t.reset_open ∙ ap (λ b. b || false) out;
@@ -149,7 +154,7 @@ module _ (l : Lent) (t : Turning l) where
         let play = playable (record_of l) (gates_of l) in
         let free = more.free in
         let same = same_places in (
-          row_laid,
+          row_blank,
           subst P (sym more.used) (lost_run (arena l) play.in_range play.some_state (items_of l.rows) row (length (table_of rows')) (rows_push (arena l) (items_of l.rows) row t.good_rows fine)
               (omega (arith, length_push (items_of l.rows) row)) in_reset t.reset_open),
         )
@@ -187,9 +192,9 @@ module _ (l : Lent) (t : Turning l) where
 
   -- the next turn begins with an exception more
   pub exception_turning : (x : Exception) → GoodException (arena l) (items_of l.rows) (items_of l.exceptions) x → (xs' : Roll Exception)
-      → Grown l.exceptions x xs' → (c : Meaning) → c.clauses ≡ l.candidate.clauses ++ (exception_clause (record_of l) x ∷ [])
-      → Turned l (lent l.model l.rows xs' c l.answer l.work) (Ok None)
-  exception_turning x fine xs' more c h =
+      → Grown l.exceptions x xs' → (c a : Meaning) (w : List ℕ) → c.clauses ≡ l.candidate.clauses ++ (exception_clause (record_of l) x ∷ [])
+      → a ≡ l.answer → Turned l (lent l.model l.rows xs' c a w) (Ok None)
+  exception_turning x fine xs' more c a w h same =
       let r = record_of l in
       let gs = gates_of l in
       let X : List Exception → Type 0 = λ ys. GoodExceptions (arena l) (items_of l.rows) ys in (
@@ -200,7 +205,7 @@ module _ (l : Lent) (t : Turning l) where
           reset_open = t.reset_open;
           candidate = h ∙ ap (λ cs. cs ++ (exception_clause r x ∷ [])) t.candidate ∙ candidate_exception r gs (items_of l.rows) (items_of l.exceptions) x
               ∙ ap (candidate_clauses r gs (items_of l.rows)) (sym more.used);
-          answer = t.answer;
+          answer = ap (λ m. m.clauses) same ∙ t.answer;
         },
         inr (refl, ap length more.used ∙ length_push (items_of l.exceptions) x),
       )

@@ -22,6 +22,7 @@ impl<C: NarrowingSolver, A: NarrowingSolver> Search<'_, '_, '_, '_, C, A> {
         requires good { GoodRow (arena (lent_to self.old)) (items_of self.old.rows.now) row }
         requires due { RowDue (arena (lent_to self.old)) (items_of self.old.rows.now) }
         ensures after { Turned (lent_to self.old) (lent_to self.new) result }
+        ensures work { self.new.work.now ≡ self.old.work.now }
         ensures same { Same self.old self.new }
     {
         let place = self.rows.count();
@@ -34,12 +35,15 @@ impl<C: NarrowingSolver, A: NarrowingSolver> Search<'_, '_, '_, '_, C, A> {
         Ok(row.covers(&0).then_some(Verdict::Lost))
     }
 
-    // Adds an exception for the rows that there are.
+    // Adds an exception for the rows that there are. They stay, and the answer solver and the buffer too.
     pub fn add_exception(&mut self, exception: Exception) -> Result<Option<Verdict>, RunFault>
         requires turning { Turning (lent_to self.old) }
         requires good { GoodException (arena (lent_to self.old)) (items_of self.old.rows.now) (items_of self.old.exceptions.now) exception }
         requires due { ExceptionDue (arena (lent_to self.old)) (items_of self.old.rows.now) (items_of self.old.exceptions.now) }
         ensures after { Turned (lent_to self.old) (lent_to self.new) result }
+        ensures rows { self.new.rows.now ≡ self.old.rows.now }
+        ensures answer { self.new.answer.now ≡ self.old.answer.now }
+        ensures work { self.new.work.now ≡ self.old.work.now }
         ensures same { Same self.old self.new }
     {
         let rows = self.rows.count();

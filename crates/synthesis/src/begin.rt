@@ -17,6 +17,7 @@ impl<C: NarrowingSolver, A: NarrowingSolver> Search<'_, '_, '_, '_, C, A> {
     pub fn begin(&mut self) -> Result<(), SolverFault>
         ensures ok { result_err result ≡ None }
         ensures after { Turning (lent_to self.new) }
+        ensures work { self.new.work.now ≡ self.old.work.now }
         ensures same { Same self.old self.new }
     {
         self.rows.clear(Row::BLANK);

@@ -21,4 +21,4 @@ pub returns-clause-after : goal.returns-clause-after
 returns-clause-after g c =
     let more = grown c.args.self.now.exceptions.now c.append.new.self c.args.exception c.append.result c.append.ensures.cases c.in_ok-map_err.ensures.variant in
     let w = exception_whole (lent_to c.args.self.now) c.args.self.now.room c.requires.turning c.args.exception c.append.new.self more _ _ c.in_ok-hold_exception.ensures.whole in
-    exception_turning (lent_to c.args.self.now) c.requires.turning c.args.exception c.requires.good c.append.new.self more _ (ap (λ m. m.clauses) w.1)
+    exception_turning (lent_to c.args.self.now) c.requires.turning c.args.exception c.requires.good c.append.new.self more _ _ _ (ap (λ m. m.clauses) w.1) (search rules)

@@ -44,6 +44,6 @@ returns-clause-after g c =
     let more = grown l.rows c.append.new.self c.args.row c.append.result c.append.ensures.cases c.in_ok-map_err.ensures.variant in
     let k : c.fixed_clauses-fixed.result ≡ length (fixed_clauses r gs (items_of l.rows)) =
     c.fixed_clauses-fixed.ensures ∙ ap (λ is. length (fixed_clauses r gs is)) c.items.ensures in
-    rw c.then_some.ensures (row_turned l c.requires.turning c.args.row c.requires.good c.append.new.self more c.clear.new.self c.clear.ensures.items _ _
+    rw c.then_some.ensures (row_turned l c.requires.turning c.args.row c.requires.good c.append.new.self more c.clear.new.self c.clear.ensures.items _ _ _
     c.fixed_clauses-fixed.result k c.count-place.result c.count-place.ensures (ap (λ m. m.clauses) c.in_ok-hold_row.ensures.after) (ap (λ m. m.clauses) c.in_ok-hold_row.ensures.after_answer)
     c.covers.result c.covers.ensures.value)
