@@ -200,6 +200,39 @@ mod tests {
         contradicted(&rt, &mut Narrowing::new(Splitting::new(&mut numbers, 1)))
     }
 
+    // What no contract says: a solver is made in the same time over more numbers.
+    #[test]
+    fn making_writes_no_number(rt: HostRuntime) {
+        let mut numbers = [7u32; 64];
+        let made = Splitting::new(&mut numbers, 3);
+        assert_eq!(rt; made.variables(), 3);
+        assert_eq!(rt; numbers, [7u32; 64]);
+    }
+
+    // The first question clears what the numbers held before, and a later one what the one before it set.
+    #[test]
+    fn questions_leave_nothing(rt: HostRuntime) -> Result<(), Fail> {
+        let mut numbers = [1u32; 64];
+        let mut solver = Splitting::new(&mut numbers, 2);
+        solver.hold(&[2, 4].map(lit))?;
+        solver.hold(&[3].map(lit))?;
+        let mut values = [7u8; 3];
+        let mut marks = [7u8; 1];
+        assert_eq!(rt; solver.decide(&[], &mut values, &mut marks)?, Answer::Yes);
+        assert_eq!(rt; values, [0, 0, 1]);
+        assert_eq!(rt;
+            solver.decide(&[5].map(lit), &mut values, &mut marks)?,
+            Answer::No
+        );
+        assert_eq!(rt; marks, [1]);
+        assert_eq!(rt;
+            solver.decide(&[4].map(lit), &mut values, &mut marks)?,
+            Answer::Yes
+        );
+        assert_eq!(rt; values, [0, 0, 1]);
+        Ok(())
+    }
+
     #[test]
     fn checks(rt: HostRuntime) {
         assert_eq!(rt; counting::check(0, 20), Ok(()));

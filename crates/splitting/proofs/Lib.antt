@@ -7,3 +7,4 @@ pub mod Givens
 pub mod Publics
 pub mod Refusals
 pub mod Ranges
+pub mod Columns

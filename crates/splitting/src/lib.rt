@@ -12,6 +12,7 @@ pub use solver::Splitting;
 mod assume;
 mod blame;
 mod clause;
+mod lazy;
 mod propagate;
 mod reason;
 mod search;

@@ -4,10 +4,10 @@ ghost use Rattle.std.specs.Prelude.{◌≡◌, ◌-◌, ◌≤◌, true, [], len
 ghost use Rattle.sat.specs.Faults.{all_in_range};
 ghost use Rattle.cells.specs.Held.{held, room};
 ghost use Rattle.splitting.specs.Sizes.{variables_over, cells_over};
-ghost use Rattle.splitting.specs.Columns.{width};
 
+use crate::lazy::LazyTrail;
 use crate::sizes::{Sizes, sizes_over};
-use crate::trail::{Columns, Trail};
+use crate::trail::Columns;
 use cells::Cells;
 use literal::Literal;
 use sat::{Answer, Solver, SolverFault, check_decide, check_hold, check_keep};
@@ -15,17 +15,14 @@ use sat::{Answer, Solver, SolverFault, check_decide, check_hold, check_keep};
 // Clauses that can be asked.
 #[derive(Drop)]
 pub struct Splitting<'a> {
-    // It has no place before the first question, which makes it of the columns.
-    pub(crate) trail: Trail<'a>,
-    // Until then they are not cleared, so that making a solver takes no longer over more numbers.
-    pub(crate) columns: Option<Columns<'a>>,
+    pub(crate) trail: LazyTrail<'a>,
     // By variable, in a lent number: 1 where what is assumed of it counts in a conflict, else 0.
     pub(crate) seen: &'a mut [u32],
     pub(crate) cells: Cells<'a>,
     pub(crate) variables: usize,
     ghost ranged: { all_in_range variables (held cells) ≡ true },
-    ghost table: { variables ≤ width columns trail - 1 },
-    ghost marks: { length seen.now ≡ width columns trail },
+    ghost table: { variables ≤ length trail.value.now - 1 },
+    ghost marks: { length seen.now ≡ length trail.value.now },
 }
 
 impl<'a> Splitting<'a> {
@@ -47,8 +44,7 @@ impl<'a> Splitting<'a> {
         let (seen, rest) = rest.split_at_mut(column);
         let (cells, _) = rest.split_at_mut(cells);
         Splitting {
-            trail: Trail::new(Columns::none()),
-            columns: Some(Columns {
+            trail: LazyTrail::new(Columns {
                 value,
                 literals,
                 reasons,

@@ -10,14 +10,16 @@ use literal::Literal;
 impl<'a> Splitting<'a> {
     // Writes a byte for each variable, 1 where it is true, and 0 into byte 0.
     pub(crate) fn write(&self, values: &mut [u8])
-        requires made { self.now.columns ≡ None }
-        requires room { self.now.variables < length values.old }
+        requires { self.now.variables < length values.old }
         ensures { Valued self.now.trail.value.now self.now.variables values.old values.new }
     {
+        let Some(table) = self.trail.values() else {
+            return values[..=self.variables].fill(0);
+        };
         values[0] = 0;
         // By index: after writing through iter_mut().zip nothing is known of the bytes.
         for variable in 1..=self.variables {
-            values[variable] = u8::from(self.trail.value[variable] == 1);
+            values[variable] = u8::from(table[variable] == 1);
         }
     }
 
