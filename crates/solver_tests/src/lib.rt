@@ -217,19 +217,24 @@ mod tests {
         solver.hold(&[2, 4].map(lit))?;
         solver.hold(&[3].map(lit))?;
         let mut values = [7u8; 3];
-        let mut marks = [7u8; 1];
+        let mut marks = [7u8; 2];
         assert_eq!(rt; solver.decide(&[], &mut values, &mut marks)?, Answer::Yes);
         assert_eq!(rt; values, [0, 0, 1]);
         assert_eq!(rt;
             solver.decide(&[5].map(lit), &mut values, &mut marks)?,
             Answer::No
         );
-        assert_eq!(rt; marks, [1]);
+        assert_eq!(rt; marks, [1, 7]);
         assert_eq!(rt;
             solver.decide(&[4].map(lit), &mut values, &mut marks)?,
             Answer::Yes
         );
         assert_eq!(rt; values, [0, 0, 1]);
+        assert_eq!(rt;
+            solver.decide(&[2, 4].map(lit), &mut values, &mut marks)?,
+            Answer::No
+        );
+        assert_eq!(rt; marks, [1, 0]);
         Ok(())
     }
 
