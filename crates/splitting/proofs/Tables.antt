@@ -6,6 +6,7 @@ use Rattle.std.proofs.lemmas.List.Folds.{Any-from_list_any}
 use Rattle.std.proofs.lemmas.Bool.{eqb-true}
 use Rattle.splitting.specs.Cells.{Holds, Unset}
 use Rattle.splitting.specs.Trails.{zeros, on_trail, Kept}
+pub use Rattle.splitting.specs.Columns.{kept_none}
 
 -- the place of a variable's literal
 pub on_trail_at : (trail : List ℕ) (n v : ℕ) → on_trail trail n v ≡ true → (i : ℕ) × ((i < n) × (get_or trail i 0 / 2 ≡ v))
@@ -117,21 +118,6 @@ kept_down value trail n k h =
     let e : n ≡ n - 1 + 1 = omega arith in
     let P : ℕ → Type 0 = λ x. Kept value trail x in
     kept_pop value trail (n - 1) (subst P e k)
-
-zeros_le : (xs : List ℕ) → zeros xs ≤ length xs
-zeros_le [] = omega arith
-zeros_le (zero ∷ xs) = omega (arith, zeros_le xs)
-zeros_le (suc x ∷ xs) = omega (arith, zeros_le xs)
-
--- an empty trail
-pub kept_none : (value trail : List ℕ) → ((v : ℕ) → get_or value v 0 ≡ 0) → length value ≤ length trail → Kept value trail 0
-kept_none value trail z w = record {
-  sound = λ i h. absurd (omega arith);
-  listed = λ v h. absurd (omega (arith, z v));
-  apart = λ i j a b e. absurd (omega arith);
-  inside = λ i h. absurd (omega arith);
-  room = omega (arith, zeros_le value);
-}
 
 -- what held before a literal was made true holds after it
 pub holds_push : (value value' : List ℕ) (l a : ℕ) → Unset value l → value' ≡ set value (l / 2) (1 + l % 2) → Holds value a → Holds value' a

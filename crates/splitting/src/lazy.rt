@@ -4,7 +4,7 @@ ghost use Rattle.std.specs.Prelude.{◌≡◌, ℕ, ◌<◌, true, false, length
 ghost use Rattle.splitting.specs.Cells.{Whole, InTable, Holds};
 ghost use Rattle.cells.specs.Cells.{codes};
 ghost use Rattle.splitting.specs.Trails.{AllMet, Refutes};
-ghost use Rattle.splitting.specs.Columns.{width};
+ghost use Rattle.splitting.specs.Columns.{width, cleared};
 
 use crate::trail::{Columns, Trail};
 use literal::Literal;
@@ -44,7 +44,7 @@ fn begin<'a>(trail: &mut Trail<'a>, columns: &mut Option<Columns<'a>>)
 impl<'a> LazyTrail<'a> {
     // No literal is true, and no number of the columns is written.
     pub fn new(columns: Columns<'a>) -> LazyTrail<'a>
-        ensures { length result.value.now ≡ length columns.entry.value.now }
+        ensures { result ≡ cleared columns.entry }
     {
         LazyTrail {
             trail: Trail::new(Columns::none()),

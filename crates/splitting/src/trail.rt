@@ -56,9 +56,11 @@ fn negated(literal: u32) -> u32
 
 impl<'a> Trail<'a> {
     ghost use Rattle.splitting.specs.Searches.{Writes};
+    ghost use Rattle.splitting.specs.Columns.{Alike, cleared};
 
     // No literal is true.
     pub fn new(columns: Columns<'a>) -> Trail<'a>
+        ensures made { Alike result (cleared columns.entry) }
         ensures size { length result.value.now ≡ length columns.entry.value.now }
         ensures count { result.count ≡ 0 }
     {
